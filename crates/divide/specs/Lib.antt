@@ -1,0 +1,5 @@
+pub mod Answered
+pub mod Counts
+pub mod Lines
+pub mod Questions
+pub mod Text

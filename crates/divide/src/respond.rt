@@ -1,0 +1,61 @@
+// What the program does with a line: it prints the line's answer, or what is wrong with it, and counts it.
+ghost use Rattle.std.specs.Vec.{made};
+ghost use Rattle.divide.specs.Lines.{Counted};
+ghost use Rattle.divide.specs.Questions.{Asks};
+use crate::answer::AnswerDisplay;
+use crate::answer::answered;
+use crate::question::Fault;
+use crate::question::FaultDisplay;
+use crate::question::Question;
+use crate::question::QuestionDisplay;
+use crate::question::read;
+use crate::tally::Tally;
+use std::io;
+use std::str::from_utf8;
+
+// A blank line is counted, and passed over.
+pub fn respond(rt: &impl Print, tally: &mut Tally, line: &[u8]) -> io::Result<()>
+    ensures { λ _. ⌜ Counted (now (line .entry)) (now (tally .entry)) (now (tally .exit)) ⌝ }
+{
+    let number = tally.line();
+    match asked(line) {
+        Ok(question) => {
+            let answer = answered(&question);
+            tally.answer(&answer);
+            println!(rt, "{question} {answer}")
+        }
+        Err(Fault::Words { count: 0 }) => {
+            tally.blank();
+            Ok(())
+        }
+        Err(fault) => {
+            tally.unreadable();
+            println!(rt, "line {number}{fault}")
+        }
+    }
+}
+
+fn asked(line: &[u8]) -> Result<Question, Fault<'_>>
+    ensures { λ r. ⌜ made r (λ q. Asks (now (line .entry)) q) ⌝ }
+{
+    match from_utf8(line) {
+        Ok(text) => read(text),
+        Err(_) => Err(Fault::NotText),
+    }
+}
+
+#[cfg(test)]
+mod tests {
+    use super::*;
+    use std::test::*;
+
+    #[test]
+    fn bytes_that_are_no_text() -> Result<(), Fail> {
+        check(matches!(asked(b"WN 7 1 \xff"), Err(Fault::NotText)))
+    }
+
+    #[test]
+    fn a_return_before_the_newline() -> Result<(), Fail> {
+        check(matches!(asked(b" WN  7\t1 3\r"), Ok(_)))
+    }
+}
