@@ -1,13 +1,12 @@
 // A line as a question, or what is wrong with it.
 ghost use mathlib.Core.Path.{_≡_};
 ghost use mathlib.Core.List.{[], _∷_};
-ghost use Prim.Native.Nat.{_^_, _<_};
-ghost use Rattle.std.specs.Numbers.{Converted};
-ghost use Rattle.std.specs.Reads.{Numeral, value};
+ghost use Prim.Native.Nat.{ℕ};
+ghost use Rattle.std.specs.Options.{Cases as BySome};
 ghost use Rattle.std.specs.Results.{Cases};
-ghost use Rattle.std.specs.Vec.{made};
 ghost use Rattle.std.specs.declared.option.Option.the-variants.{Some};
-ghost use Rattle.divide.specs.Questions.{Words, Asks};
+ghost use Rattle.divide.specs.declared.question.Fault.the-variants.{NoGround, NoNumber};
+ghost use Rattle.divide.specs.Questions.{Words, NotWords, Writes, Asks, AsksNone, Wrong, blank};
 ghost use Rattle.divide.specs.Text.{code-text, question-text};
 use std::fmt;
 
@@ -36,10 +35,23 @@ pub enum Fault<'a> {
     NoNumber { place: u8, word: &'a str },
 }
 
+impl Fault<'_> {
+    // Whether the line has no word.
+    pub fn is_blank(&self) -> bool
+        ensures { λ r. ⌜ r ≡ blank (now (self .entry)) ⌝ }
+    {
+        matches!(self, Fault::Words { count: 0 })
+    }
+}
+
 pub fn read(line: &str) -> Result<Question, Fault<'_>>
-    ensures { λ r. ⌜ made r (λ q. Asks (now (line .entry)) q) ⌝ }
+    ensures { λ r. ⌜ Cases r (Asks (now (line .entry))) (λ f. Wrong (now (line .entry)) f × AsksNone (now (line .entry))) ⌝ }
 {
-    let (code, m, y, x) = four_words(line)?;
+    let Some((code, m, y, x)) = four_words(line) else {
+        return Err(Fault::Words {
+            count: line.split_whitespace().count(),
+        });
+    };
     Ok(Question {
         code: ground(code)?,
         modulus: number(2, m)?,
@@ -49,26 +61,19 @@ pub fn read(line: &str) -> Result<Question, Fault<'_>>
 }
 
 // The words of a line that has just four.
-fn four_words(line: &str) -> Result<(&str, &str, &str, &str), Fault<'_>>
-    ensures { λ r. ⌜ made r (λ w. Words (now (line .entry)) (now (w .0) ∷ now (w .1) ∷ now (w .2) ∷ now (w .3) ∷ [])) ⌝ }
+fn four_words(line: &str) -> Option<(&str, &str, &str, &str)>
+    ensures { λ r. ⌜ BySome r (NotWords (now (line .entry)) 4) (λ w. Words (now (line .entry)) (now (w .0) ∷ now (w .1) ∷ now (w .2) ∷ now (w .3) ∷ [])) ⌝ }
 {
     let mut words = line.split_whitespace();
-    let (Some(code), Some(m), Some(y), Some(x), None) = (
-        words.next(),
-        words.next(),
-        words.next(),
-        words.next(),
-        words.next(),
-    ) else {
-        return Err(Fault::Words {
-            count: line.split_whitespace().count(),
-        });
-    };
-    Ok((code, m, y, x))
+    let four = (words.next()?, words.next()?, words.next()?, words.next()?);
+    match words.next() {
+        None => Some(four),
+        Some(_) => None,
+    }
 }
 
 fn ground(word: &str) -> Result<Code, Fault<'_>>
-    ensures { λ r. ⌜ Cases r (λ c. now (word .entry) ≡ code-text c) (λ _. (c : Code) → now (word .entry) ≡ code-text c → ⊥) ⌝ }
+    ensures { λ r. ⌜ Cases r (λ c. now (word .entry) ≡ code-text c) (λ f. (f ≡ NoGround (word .entry)) × ((c : Code) → now (word .entry) ≡ code-text c → ⊥)) ⌝ }
 {
     match word {
         "WN" => Ok(Code::Whole),
@@ -79,7 +84,7 @@ fn ground(word: &str) -> Result<Code, Fault<'_>>
 
 // The number that a word's digits write. `parse` would take a plus too.
 fn number(place: u8, word: &str) -> Result<u32, Fault<'_>>
-    ensures { λ r. ⌜ Converted r (Numeral 10 (now (word .entry)) × (value 10 (now (word .entry)) < 2 ^ 32)) (value 10 (now (word .entry))) ⌝ }
+    ensures { λ r. ⌜ Cases r (Writes (now (word .entry))) (λ f. (f ≡ NoNumber place (word .entry)) × ((n : ℕ) → Writes (now (word .entry)) n → ⊥)) ⌝ }
 {
     if word.starts_with('+') {
         return Err(Fault::NoNumber { place, word });

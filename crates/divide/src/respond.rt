@@ -1,7 +1,7 @@
 // What the program does with a line: it prints the line's answer, or what is wrong with it, and counts it.
-ghost use Rattle.std.specs.Vec.{made};
+ghost use Rattle.std.specs.Results.{Cases};
 ghost use Rattle.divide.specs.Lines.{Counted};
-ghost use Rattle.divide.specs.Questions.{Asks};
+ghost use Rattle.divide.specs.Questions.{Asks, AsksNone, Wrong};
 use crate::answer::AnswerDisplay;
 use crate::answer::answered;
 use crate::question::Fault;
@@ -24,7 +24,7 @@ pub fn respond(rt: &impl Print, tally: &mut Tally, line: &[u8]) -> io::Result<()
             tally.answer(&answer);
             println!(rt, "{question} {answer}")
         }
-        Err(Fault::Words { count: 0 }) => {
+        Err(fault) if fault.is_blank() => {
             tally.blank();
             Ok(())
         }
@@ -36,26 +36,10 @@ pub fn respond(rt: &impl Print, tally: &mut Tally, line: &[u8]) -> io::Result<()
 }
 
 fn asked(line: &[u8]) -> Result<Question, Fault<'_>>
-    ensures { λ r. ⌜ made r (λ q. Asks (now (line .entry)) q) ⌝ }
+    ensures { λ r. ⌜ Cases r (Asks (now (line .entry))) (λ f. Wrong (now (line .entry)) f × AsksNone (now (line .entry))) ⌝ }
 {
     match from_utf8(line) {
         Ok(text) => read(text),
         Err(_) => Err(Fault::NotText),
-    }
-}
-
-#[cfg(test)]
-mod tests {
-    use super::*;
-    use std::test::*;
-
-    #[test]
-    fn bytes_that_are_no_text() -> Result<(), Fail> {
-        check(matches!(asked(b"WN 7 1 \xff"), Err(Fault::NotText)))
-    }
-
-    #[test]
-    fn a_return_before_the_newline() -> Result<(), Fail> {
-        check(matches!(asked(b" WN  7\t1 3\r"), Ok(_)))
     }
 }

@@ -1,6 +1,6 @@
 -- Laws of the count of binary digits. Assumes nothing.
-use mathlib.Core.Path.{_≡_, refl, sym, ap, _∙_}
-use Prim.Native.Nat.{ℕ, zero, suc, _+_, _*_, _/_, _^_, _≤_, _<_, zero-le, suc-le-suc}
+use mathlib.Core.Path.{_≡_, refl, ap, _∙_}
+use Prim.Native.Nat.{ℕ, zero, suc, _+_, _/_, _^_, _≤_, _<_, zero-le, suc-le-suc}
 use native.Mathlib.Decide.{le-ind}
 use native.Mathlib.Nat.{le-refl, not-suc-le-zero, pow-suc}
 use native.Mathlib.Omega.{arith}

@@ -2,7 +2,7 @@
 -- a double divides its half. Assumes nothing.
 use mathlib.Core.Bool.{Bool, true, false}
 use mathlib.Core.Path.{_≡_, refl, sym, ap, _∙_}
-use Prim.Native.Nat.{ℕ, _<_}
+use Prim.Native.Nat.{ℕ}
 use native.Mathlib.Omega.{arith}
 use borrow.Author.Tests.{both-ways}
 use Rattle.ground.specs.Operations.{Operations, Divides, Congruent}
@@ -58,12 +58,8 @@ module _ {o : Operations} (R : Ring o) (P : Parity o) where
       double : base ⊗ i ≡ m ⊕ 1
       double = P .even-half (m ⊕ 1) (P .odd-sum m 1 h (one-odd m h))
 
-      undo : (a : ℕ) → Congruent o m (i ⊗ (base ⊗ a)) a
-      undo a = record {
-        left = 0;
-        right = a;
-        same = ap (λ z. z ⊕ (0 ⊗ m)) (regroup a ∙ ap (λ z. a ⊗ z) double) ∙ simp (rings.ring, R);
-      }
+      undo : (a : ℕ) → Congruent o m (base ⊗ a ⊗ i) a
+      undo a = record { left = 0; right = a; same = ap (λ z. z ⊕ (0 ⊗ m)) (regroup a ∙ ap (λ z. a ⊗ z) double) ∙ simp (rings.ring, R) }
         where
-          regroup : (a : ℕ) → i ⊗ (base ⊗ a) ≡ a ⊗ (base ⊗ i)
+          regroup : (a : ℕ) → base ⊗ a ⊗ i ≡ a ⊗ (base ⊗ i)
           regroup a = simp (rings.ring, R)

@@ -7,7 +7,7 @@ use lib.Dec.{ltb}
 use borrow.Author.Tests.{both-ways, ltb-true, ltb-false}
 use Rattle.ground.specs.Bits.{bits}
 use Rattle.ground.specs.Operations.{Operations, Meaning, Divides, Congruent, halved, subtracted}
-use Rattle.ground.specs.Laws.{Ring, Parity, Shrinking, Residues}
+use Rattle.ground.specs.Laws.{Laws}
 use Rattle.ground.specs.Loop.{start, step, chosen}
 use Rattle.ground.specs.declared.registers.Registers.{Registers}
 use Rattle.ground.proofs.Rings as rings
@@ -45,26 +45,37 @@ above : (n : ℕ) → (n ≡ 0 → ⊥) → 0 < n
 above zero h = absurd (h refl)
 above (suc n) h = omega arith
 
-module _ {m : Meaning} (R : Ring (m .operations)) (P : Parity (m .operations)) (S : Shrinking (m .operations)) (Q : Residues m) where
+module _ {m : Meaning} (L : Laws m) where
   infixl 65 _⊕_
   infixl 70 _⊗_
   open Operations (m .operations) using (sum as _⊕_, product as _⊗_, subtractable, difference, base, even, half)
+  open Laws L using (ring as R, parity as P, shrinking as S, residues as Q)
+
+  infixr 40 _⨾_
+  _⨾_ : {a b c : ℕ} → Congruent (m .operations) (m .modulus) a b → Congruent (m .operations) (m .modulus) b c → Congruent (m .operations) (m .modulus) a c
+  p ⨾ q = congruences.join R p q
 
   -- the base times the half of a residue is congruent to it
   halved-is : (u : ℕ) → Congruent (m .operations) (m .modulus) (base ⊗ halved m u) u
   halved-is u = by (even u) refl
     where
-      by : (t : Bool) → even u ≡ t → Congruent (m .operations) (m .modulus) (base ⊗ cond t (half u) (half (u ⊕ m .modulus))) u
-      by true e = congruences.same R (base ⊗ half u) u (P .even-half u e)
-      by false e = congruences.join R (congruences.same R (base ⊗ half (u ⊕ m .modulus)) (u ⊕ m .modulus) (P .even-half (u ⊕ m .modulus) (P .odd-sum u (m .modulus) e (Q .odd-modulus)))) (congruences.plus-modulus R u)
+      w : ℕ
+      w = u ⊕ m .modulus
+
+      by : (t : Bool) → even u ≡ t → Congruent (m .operations) (m .modulus) (base ⊗ cond t (half u) (half w)) u
+      by true e = congruences.same R (P .even-half u e)
+      by false e = congruences.same R (P .even-half w (P .odd-sum u (m .modulus) e (Q .odd-modulus))) ⨾ congruences.plus-modulus R u
 
   -- what is subtracted makes up the difference again
   subtracted-is : (u v : ℕ) → u < m .size → v < m .size → Congruent (m .operations) (m .modulus) (subtracted m u v ⊕ v) u
   subtracted-is u v hu hv = by (subtractable u v) refl
     where
-      by : (t : Bool) → subtractable u v ≡ t → Congruent (m .operations) (m .modulus) (cond t (difference u v) (difference (u ⊕ m .modulus) v) ⊕ v) u
-      by true e = congruences.same R (difference u v ⊕ v) u (R .difference-sum u v e)
-      by false e = congruences.join R (congruences.same R (difference (u ⊕ m .modulus) v ⊕ v) (u ⊕ m .modulus) (R .difference-sum (u ⊕ m .modulus) v (Q .once u v hu hv))) (congruences.plus-modulus R u)
+      w : ℕ
+      w = u ⊕ m .modulus
+
+      by : (t : Bool) → subtractable u v ≡ t → Congruent (m .operations) (m .modulus) (cond t (difference u v) (difference w v) ⊕ v) u
+      by true e = congruences.same R (R .difference-sum u v e)
+      by false e = congruences.same R (R .difference-sum w v (Q .once u v hu hv)) ⨾ congruences.plus-modulus R u
 
   -- the larger of two odd values less the smaller is even
   odd-less : {a b : ℕ} → even a ≡ false → even b ≡ false → b < a → even (difference a b) ≡ true
@@ -80,7 +91,7 @@ module _ {m : Meaning} (R : Ring (m .operations)) (P : Parity (m .operations)) (
       b-above = modulus-above;
       u-residue = hy;
       v-residue = omega (arith, Q .one-residue);
-      u-is = congruences.same R (y ⊗ x) (x ⊗ y) (R .product-comm y x);
+      u-is = congruences.same R (R .product-comm y x);
       v-is = record { left = y; right = 0; same = simp (rings.ring, R) };
       up = λ d p q. (p, q);
       down = λ d p q. (p, q);
@@ -94,10 +105,8 @@ module _ {m : Meaning} (R : Ring (m .operations)) (P : Parity (m .operations)) (
       u-residue = Q .halved-residue u (k .u-residue);
       v-residue = k .v-residue;
       u-is = halves.halves-cancel R P (Q .odd-modulus)
-          (congruences.join R (congruences.same R (base ⊗ (halved m u ⊗ x)) (x ⊗ (base ⊗ halved m u)) (outward (halved m u)))
-          (congruences.join R (congruences.by-product R x (halved-is u))
-          (congruences.join R (congruences.same R (x ⊗ u) (u ⊗ x) (R .product-comm x u))
-          (congruences.join R (k .u-is) (congruences.same R (a ⊗ y) (base ⊗ (half a ⊗ y)) (ap (λ t. t ⊗ y) (sym double) ∙ R .product-assoc base (half a) y))))));
+          (congruences.same R (sym (R .product-assoc base (halved m u) x)) ⨾ congruences.by-product R x (halved-is u) ⨾ k .u-is
+          ⨾ congruences.same R (ap (λ t. t ⊗ y) (sym double) ∙ R .product-assoc base (half a) y));
       v-is = k .v-is;
       up = λ d (i, p) q. k .up d (base ⊗ i, rings.product-left-comm R d base i ∙ ap (λ t. base ⊗ t) p ∙ double) q;
       down = λ d p q. let ((i, f), g) = k .down d p q in (halves.divides-half R P d (half a) (halves.odd-divisor R P d (m .modulus) q (Q .odd-modulus)) (i, f ∙ sym double), g);
@@ -105,9 +114,6 @@ module _ {m : Meaning} (R : Ring (m .operations)) (P : Parity (m .operations)) (
       where
         double : base ⊗ half a ≡ a
         double = P .even-half a e
-
-        outward : (w : ℕ) → base ⊗ (w ⊗ x) ≡ x ⊗ (base ⊗ w)
-        outward w = simp (rings.ring, R)
 
     -- A larger: B is subtracted from A, and V from U
     kept-less : {a b u v : ℕ} → Kept m y x (record { a = a; b = b; u = u; v = v }) → b < a → Kept m y x (record { a = difference a b; b = b; u = subtracted m u v; v = v })
@@ -117,12 +123,8 @@ module _ {m : Meaning} (R : Ring (m .operations)) (P : Parity (m .operations)) (
       u-residue = Q .subtracted-residue u v (k .u-residue) (k .v-residue);
       v-residue = k .v-residue;
       u-is = congruences.sum-cancel R (v ⊗ x)
-          (congruences.join R (congruences.same R (w ⊗ x ⊕ v ⊗ x) (x ⊗ (w ⊕ v)) (gather w v))
-          (congruences.join R (congruences.by-product R x (subtracted-is u v (k .u-residue) (k .v-residue)))
-          (congruences.join R (congruences.same R (x ⊗ u) (u ⊗ x) (R .product-comm x u))
-          (congruences.join R (k .u-is)
-          (congruences.join R (congruences.same R (a ⊗ y) (b ⊗ y ⊕ d ⊗ y) (ap (λ t. t ⊗ y) (sym whole) ∙ spread d b))
-          (congruences.join R (congruences.by-sum R (d ⊗ y) (congruences.flip R (k .v-is))) (congruences.same R (v ⊗ x ⊕ d ⊗ y) (d ⊗ y ⊕ v ⊗ x) (R .sum-comm (v ⊗ x) (d ⊗ y)))))))));
+          (congruences.same R (sym (rings.sum-product R (subtracted m u v) v x)) ⨾ congruences.by-product R x (subtracted-is u v (k .u-residue) (k .v-residue)) ⨾ k .u-is
+          ⨾ congruences.same R (ap (λ t. t ⊗ y) (sym whole) ∙ rings.sum-product R d b y) ⨾ congruences.by-sum R (d ⊗ y) (congruences.flip R (k .v-is)));
       v-is = k .v-is;
       up = λ c (i, p) (j, q). k .up c (i ⊕ j, R .product-sum c i j ∙ ap₂ _⊕_ p q ∙ whole) (j, q);
       down = λ c p q. let ((i, f), (j, g)) = k .down c p q in (rings.divides-part R c i j d (f ∙ sym whole ∙ ap (λ t. d ⊕ t) (sym g)), (j, g));
@@ -131,17 +133,8 @@ module _ {m : Meaning} (R : Ring (m .operations)) (P : Parity (m .operations)) (
         d : ℕ
         d = difference a b
 
-        w : ℕ
-        w = subtracted m u v
-
         whole : d ⊕ b ≡ a
         whole = rings.difference-of R a b (omega arith)
-
-        gather : (w v : ℕ) → w ⊗ x ⊕ v ⊗ x ≡ x ⊗ (w ⊕ v)
-        gather w v = simp (rings.ring, R)
-
-        spread : (d b : ℕ) → (d ⊕ b) ⊗ y ≡ b ⊗ y ⊕ d ⊗ y
-        spread d b = simp (rings.ring, R)
 
     pub step-kept : (s : Registers) → Kept m y x s → (s .a ≡ s .b → ⊥) → Kept m y x (step m s) × (bits (step m s .a) + bits (step m s .b) < bits (s .a) + bits (s .b))
     step-kept s k apart = by (even (s .a)) (even (s .b)) (ltb (s .b) (s .a)) refl refl refl

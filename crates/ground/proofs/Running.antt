@@ -5,7 +5,7 @@ use native.Mathlib.Omega.{arith}
 use borrow.Author.Tests.{ne-eqb}
 use Rattle.ground.specs.Bits.{bits}
 use Rattle.ground.specs.Operations.{Meaning}
-use Rattle.ground.specs.Laws.{Ring, Parity, Shrinking, Residues}
+use Rattle.ground.specs.Laws.{Laws}
 use Rattle.ground.specs.Loop.{start, step, ended, runs, outcome}
 use Rattle.ground.specs.declared.registers.Registers.{Registers}
 use Rattle.ground.proofs.Bits.{bits-half}
@@ -28,16 +28,16 @@ running {m} {y} {x} {s} {n} k room rest = record {
   done = λ e. sym (runs-done m (bits x + bits (m .modulus) - n) s n e) ∙ rest;
 }
 
-module _ {m : Meaning} (R : Ring (m .operations)) (P : Parity (m .operations)) (S : Shrinking (m .operations)) (Q : Residues m) {y x : ℕ} where
+module _ {m : Meaning} (L : Laws m) {y x : ℕ} where
   pub running-start : (x ≡ 0 → ⊥) → y < m .size → Running m y x (start m y x) 0
   running-start h hy =
-      running (kept-start R P S Q (omega arith) hy) (omega arith) (rw (ne-eqb x 0 h) (ap (λ most. runs m most (start m y x) 0) (omega arith)))
+      running (kept-start L (omega arith) hy) (omega arith) (rw (ne-eqb x 0 h) (ap (λ most. runs m most (start m y x) 0) (omega arith)))
 
   pub running-more : {s : Registers} {n : ℕ} → Running m y x s n → (s .a ≡ s .b → ⊥) → Running m y x (step m s) (n + 1)
   running-more {s} {n} r apart =
-      let (k, less) = step-kept R P S Q s (r .kept) apart in
+      let (k, less) = step-kept L s (r .kept) apart in
       let room : n < bits x + bits (m .modulus) = omega (arith, r .room, bits-half (s .a) (r .kept .a-above)) in
       running k (omega (arith, r .room)) (sym (runs-more m (bits x + bits (m .modulus)) s n room apart) ∙ r .rest)
 
   pub running-less : {s : Registers} {n : ℕ} → Running m y x s n → (s .a ≡ s .b → ⊥) → bits (step m s .a) + bits (step m s .b) < bits (s .a) + bits (s .b)
-  running-less {s} r apart = step-kept R P S Q s (r .kept) apart .1
+  running-less {s} r apart = step-kept L s (r .kept) apart .1

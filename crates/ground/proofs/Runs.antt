@@ -1,13 +1,13 @@
 -- Where the division loop ends. Assumes nothing.
 use mathlib.Core.Bool.{Bool, true, false, cond}
-use mathlib.Core.Path.{_≡_, refl, sym, ap, _∙_}
+use mathlib.Core.Path.{_≡_, refl, ap, _∙_}
 use Prim.Native.Nat.{ℕ, zero, suc, _+_, _-_, _≤_, _<_}
 use native.Mathlib.Omega.{arith}
 use lib.Dec.{eqb}
 use borrow.Author.Tests.{eqb-true, eqb-false, eq-eqb, ne-eqb}
 use Rattle.ground.specs.Bits.{bits}
 use Rattle.ground.specs.Operations.{Meaning}
-use Rattle.ground.specs.Laws.{Ring, Parity, Shrinking, Residues}
+use Rattle.ground.specs.Laws.{Laws}
 use Rattle.ground.specs.Loop.{step, after, Settles, ended, runs}
 use Rattle.ground.specs.declared.registers.Outcome.{Outcome}
 use Rattle.ground.specs.declared.registers.Registers.{Registers}
@@ -35,7 +35,7 @@ pub record Ended (m : Meaning) (y x : ℕ) (s : Registers) (n : ℕ) (r : Outcom
   pub bound : more + (bits (after m more s .a) + bits (after m more s .b)) ≤ bits (s .a) + bits (s .b)
   pub is : r ≡ ended (after m more s) (n + more)
 
-module _ {m : Meaning} (R : Ring (m .operations)) (P : Parity (m .operations)) (S : Shrinking (m .operations)) (Q : Residues m) {y x : ℕ} where
+module _ {m : Meaning} (L : Laws m) {y x : ℕ} where
   -- what ends after a step ends before it, one step later
   ended-before : {s : Registers} {n : ℕ} {r : Outcome} → (s .a ≡ s .b → ⊥) → bits (step m s .a) + bits (step m s .b) < bits (s .a) + bits (s .b)
       → Ended m y x (step m s) (n + 1) r → Ended m y x s n r
@@ -67,5 +67,5 @@ module _ {m : Meaning} (R : Ring (m .operations)) (P : Parity (m .operations)) (
       }
       by rest false e =
           let apart = eqb-false (s .a) (s .b) e in
-          let (k′, less) = step-kept R P S Q s k apart in
+          let (k′, less) = step-kept L s k apart in
           ended-before apart less (rest k′ (omega arith))

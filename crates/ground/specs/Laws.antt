@@ -3,6 +3,7 @@
 --   Parity      the even values are the multiples of the base
 --   Shrinking   halving takes binary digits away
 --   Residues    the residues of the modulus stay residues, and no two of them are congruent
+--   Laws        all of these
 use mathlib.Core.Bool.{true, false}
 use mathlib.Core.Logic.{_⊎_}
 use mathlib.Core.Path.{_≡_}
@@ -49,3 +50,10 @@ pub record Residues (m : Meaning) : Type 0 where
   -- the modulus added once is enough to subtract a residue from another
   pub once : (u v : ℕ) → u < m .size → v < m .size → m .operations .subtractable (m .operations .sum u (m .modulus)) v ≡ true
   pub apart : (u v : ℕ) → u < m .size → v < m .size → Congruent (m .operations) (m .modulus) u v → u ≡ v
+
+-- All of them: what it is to be a ground with a modulus.
+pub record Laws (m : Meaning) : Type 0 where
+  pub ring : Ring (m .operations)
+  pub parity : Parity (m .operations)
+  pub shrinking : Shrinking (m .operations)
+  pub residues : Residues m

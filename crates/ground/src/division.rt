@@ -15,6 +15,7 @@ use answers::Operand;
 use answers::Quotient;
 use answers::Refusal;
 
+// The run before its first step.
 fn begun<G: Ground>(ground: &G, y: u32, x: u32) -> Run
     ensures { λ r. ⌜ r ≡ record { registers = start (G·Ground .meaning (now (ground .entry))) y x; steps = 0 } ⌝ }
 {
@@ -68,6 +69,7 @@ fn stepped<G: Ground>(ground: &G, s: Registers) -> Registers
     }
 }
 
+// The run one step on.
 fn advanced<G: Ground>(ground: &G, run: Run) -> Run
     requires { ⌜ run .steps + 1 < 2 ^ 32 ⌝ }
     ensures { λ r. ⌜ r ≡ record { registers = step (G·Ground .meaning (now (ground .entry))) (run .registers); steps = run .steps + 1 } ⌝ }
@@ -78,6 +80,7 @@ fn advanced<G: Ground>(ground: &G, run: Run) -> Run
     }
 }
 
+// What a run ends with: B is the common divisor, U the quotient.
 fn finished(run: Run) -> Outcome
     ensures { λ r. ⌜ r ≡ ended (run .registers) (run .steps) ⌝ }
 {
@@ -105,6 +108,7 @@ fn looped<G: Ground>(ground: &G, y: u32, x: u32) -> Outcome
     }
 }
 
+// Refuses a number that is no residue.
 fn expect_residue<G: Ground>(ground: &G, value: u32, which: Operand) -> Result<(), Refusal>
     ensures { λ r. ⌜ r ≡ cond (ltb value (G·Ground .meaning (now (ground .entry)) .size)) (Ok tt) (Err (Refusal.Operand which)) ⌝ }
 {
@@ -115,6 +119,7 @@ fn expect_residue<G: Ground>(ground: &G, value: u32, which: Operand) -> Result<(
     }
 }
 
+// Serves the quotient, or refuses a divisor that shares a factor with the modulus.
 fn answered(outcome: Outcome) -> Result<Quotient, Refusal>
     ensures { λ r. ⌜ told r ≡ settled outcome ⌝ }
 {
@@ -136,6 +141,7 @@ fn answered(outcome: Outcome) -> Result<Quotient, Refusal>
     }
 }
 
+// Looks at the operands in their order, then divides.
 fn quotient<G: Ground>(ground: &G, y: u32, x: u32) -> Result<Quotient, Refusal>
     ensures { λ r. ⌜ told r ≡ divided (G·Ground .meaning (now (ground .entry))) y x ⌝ }
 {

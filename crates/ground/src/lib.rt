@@ -1,7 +1,7 @@
 // What a ground is, and the division loop, written and proved once for every ground.
 ghost use mathlib.Core.Path.{_≡_};
 ghost use Rattle.ground.specs.Operations.{Meaning, halved, subtracted};
-ghost use Rattle.ground.specs.Laws.{Ring, Parity, Shrinking, Residues};
+ghost use Rattle.ground.specs.Laws.{Laws};
 
 mod division;
 mod registers;
@@ -14,13 +14,7 @@ pub trait Ground {
     // What it computes.
     ghost meaning: { Self → Meaning };
 
-    law ring: { (x : Self) → Ring (meaning x .operations) };
-
-    law parity: { (x : Self) → Parity (meaning x .operations) };
-
-    law shrinking: { (x : Self) → Shrinking (meaning x .operations) };
-
-    law residues: { (x : Self) → Residues (meaning x) };
+    law lawful: { (x : Self) → Laws (meaning x) };
 
     fn modulus(&self) -> u32
         ensures { λ r. ⌜ r ≡ meaning (now (self .entry)) .modulus ⌝ };

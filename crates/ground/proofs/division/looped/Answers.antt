@@ -7,9 +7,7 @@ use Rattle.ground.proofs.division.looped.Needs as need
 
 pub loop-run-holds : need.loop-run-holds
 loop-run-holds g c =
-    let met = g .G·Ground·met in
-    let at = c .args .ground .now in
-    rw (c .begun-run .ensures) (running-start (met .ring at) (met .parity at) (met .shrinking at) (met .residues at) (c .if-x-eq0 .left) (c .pre .residue))
+    rw (c .begun-run .ensures) (running-start (g .G·Ground·met .lawful (c .args .ground .now)) (c .if-x-eq0 .left) (c .pre .residue))
 
 -- no more steps than the bits of two numbers of 32 bits
 pub advanced-run-requires : need.advanced-run-requires
@@ -20,12 +18,8 @@ advanced-run-requires g c κs =
 
 pub loop-run-less : need.loop-run-less
 loop-run-less g c =
-    let met = g .G·Ground·met in
-    let at = c .args .ground .now in
-    rw (c .advanced-run .ensures) (running-less (met .ring at) (met .parity at) (met .shrinking at) (met .residues at) (c .loop-run .inv) (c .if-run .left))
+    rw (c .advanced-run .ensures) (running-less (g .G·Ground·met .lawful (c .args .ground .now)) (c .loop-run .inv) (c .if-run .left))
 
 pub loop-run-again : need.loop-run-again
 loop-run-again g c =
-    let met = g .G·Ground·met in
-    let at = c .args .ground .now in
-    rw (c .advanced-run .ensures) (running-more (met .ring at) (met .parity at) (met .shrinking at) (met .residues at) (c .loop-run .inv) (c .if-run .left))
+    rw (c .advanced-run .ensures) (running-more (g .G·Ground·met .lawful (c .args .ground .now)) (c .loop-run .inv) (c .if-run .left))

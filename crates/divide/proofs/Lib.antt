@@ -1,0 +1,3 @@
+pub mod Words
+pub mod Encoded
+pub mod Faults
