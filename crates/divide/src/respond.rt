@@ -9,6 +9,7 @@ use crate::question::FaultDisplay;
 use crate::question::Question;
 use crate::question::QuestionDisplay;
 use crate::question::read;
+use crate::tally::Kind;
 use crate::tally::Tally;
 use std::io;
 use std::str::from_utf8;
@@ -25,11 +26,11 @@ pub fn respond(rt: &impl Print, tally: &mut Tally, line: &[u8]) -> io::Result<()
             println!(rt, "{question} {answer}")
         }
         Err(fault) if fault.is_blank() => {
-            tally.blank();
+            tally.count(Kind::Blank, 0);
             Ok(())
         }
         Err(fault) => {
-            tally.unreadable();
+            tally.count(Kind::Unreadable, 0);
             println!(rt, "line {number}{fault}")
         }
     }

@@ -1,18 +1,25 @@
 // How many lines there were, of each kind, and how many steps they took. A count that is full stays so.
 ghost use mathlib.Core.Path.{_≡_};
-ghost use Rattle.divide.specs.Counts.{up, none-yet, after-line, after-served, after-refused, after-groundless, after-unreadable, after-blank, after-answer, refusal-steps};
+ghost use Rattle.divide.specs.Counts.{up, none-yet, after-line, counted, after-answer, refusal-steps};
 use crate::answer::Answer;
 use answers::Refusal;
 use std::fmt;
 
+// What became of a line.
+#[derive(Clone, Copy)]
+pub enum Kind {
+    Served,
+    Refused,
+    Unreadable,
+    Groundless,
+    Blank,
+}
+
 #[derive(Clone, Copy)]
 pub struct Tally {
     lines: u64,
-    served: u64,
-    refused: u64,
-    groundless: u64,
-    unreadable: u64,
-    blank: u64,
+    // by kind
+    counts: [u64; 5],
     steps: u64,
 }
 
@@ -22,11 +29,7 @@ impl Tally {
     {
         Tally {
             lines: 0,
-            served: 0,
-            refused: 0,
-            groundless: 0,
-            unreadable: 0,
-            blank: 0,
+            counts: [0; 5],
             steps: 0,
         }
     }
@@ -40,46 +43,23 @@ impl Tally {
         self.lines
     }
 
+    // The line was of this kind and took these steps.
+    pub fn count(&mut self, kind: Kind, steps: u32)
+        ensures { λ _. ⌜ now (self .exit) ≡ counted (now (self .entry)) kind steps ⌝ }
+    {
+        let i = kind as usize;
+        self.counts[i] = self.counts[i].saturating_add(1);
+        self.steps = self.steps.saturating_add(u64::from(steps));
+    }
+
     pub fn answer(&mut self, answer: &Answer)
         ensures { λ _. ⌜ now (self .exit) ≡ after-answer (now (self .entry)) (now (answer .entry)) ⌝ }
     {
         match answer {
-            Answer::Served(quotient) => self.served(quotient.steps),
-            Answer::Refused(refusal) => self.refused(steps_of(refusal)),
-            Answer::NoGround => self.groundless(),
+            Answer::Served(quotient) => self.count(Kind::Served, quotient.steps),
+            Answer::Refused(refusal) => self.count(Kind::Refused, steps_of(refusal)),
+            Answer::NoGround => self.count(Kind::Groundless, 0),
         }
-    }
-
-    pub fn unreadable(&mut self)
-        ensures { λ _. ⌜ now (self .exit) ≡ after-unreadable (now (self .entry)) ⌝ }
-    {
-        self.unreadable = self.unreadable.saturating_add(1);
-    }
-
-    pub fn blank(&mut self)
-        ensures { λ _. ⌜ now (self .exit) ≡ after-blank (now (self .entry)) ⌝ }
-    {
-        self.blank = self.blank.saturating_add(1);
-    }
-
-    fn served(&mut self, steps: u32)
-        ensures { λ _. ⌜ now (self .exit) ≡ after-served (now (self .entry)) steps ⌝ }
-    {
-        self.served = self.served.saturating_add(1);
-        self.steps = self.steps.saturating_add(u64::from(steps));
-    }
-
-    fn refused(&mut self, steps: u32)
-        ensures { λ _. ⌜ now (self .exit) ≡ after-refused (now (self .entry)) steps ⌝ }
-    {
-        self.refused = self.refused.saturating_add(1);
-        self.steps = self.steps.saturating_add(u64::from(steps));
-    }
-
-    fn groundless(&mut self)
-        ensures { λ _. ⌜ now (self .exit) ≡ after-groundless (now (self .entry)) ⌝ }
-    {
-        self.groundless = self.groundless.saturating_add(1);
     }
 }
 
@@ -98,13 +78,10 @@ pub impl fmt::Display for Tally as TallyDisplay {
     fn fmt<W: fmt::Write>(&self, f: &mut fmt::Formatter<W>) -> fmt::Result {
         let Tally {
             lines,
-            served,
-            refused,
-            groundless,
-            unreadable,
-            blank,
+            counts,
             steps,
         } = *self;
+        let [served, refused, unreadable, groundless, blank] = counts;
         write!(
             f,
             "{lines} lines: {served} served, {refused} refused, {unreadable} unreadable, "

@@ -2,6 +2,7 @@
 --   divided m y x   the answer
 --   Division        what an outcome's common divisor, quotient and step count are
 --   Lawful m y x    the loop's outcome is such a one, for every residue y
+--   Answers on      what a ground answers to y by x modulo any number
 use mathlib.Core.Bool.{cond}
 use mathlib.Core.List.{[], _∷_}
 use mathlib.Core.Path.{_≡_}
@@ -9,6 +10,7 @@ use Prim.Native.Nat.{ℕ, _+_, _*_, _<_, _≤_}
 use lib.Dec.{eqb, ltb}
 use Rattle.answers.specs.Answers.{Answer, served, refused}
 use Rattle.ground.specs.Bits.{bits}
+use Rattle.ground.specs.Modulus.{IsModulus}
 use Rattle.ground.specs.Operations.{Meaning, Greatest, Solves, Unit-of}
 use Rattle.ground.specs.Loop.{start, after, Settles, ended, outcome}
 use Rattle.ground.specs.declared.registers.Outcome.{Outcome}
@@ -39,3 +41,8 @@ pub record Division (m : Meaning) (y x : ℕ) (r : Outcome) : Type 0 where
 
 abbrev pub Lawful : Meaning → ℕ → ℕ → Type 0
 Lawful m y x = y < m .size → Division m y x (outcome m y x)
+
+-- what a quotient modulo m answers on the ground `on`: 1 where m is no modulus, else what the division does
+pub record Answers (on : ℕ → Meaning) (m y x : ℕ) (a : Answer) : Type 0 where
+  pub divides : IsModulus m → a ≡ divided (on m) y x
+  pub refuses : (IsModulus m → ⊥) → a ≡ refused 1 []

@@ -1,4 +1,5 @@
 pub mod Bits
+pub mod Modulus
 pub mod Operations
 pub mod Laws
 pub mod Loop

@@ -6,13 +6,14 @@ use native.Mathlib.Omega.{arith}
 use borrow.Author.Tests.{le-leb, ne-eqb}
 use Rattle.std.proofs.shelf.Ways.{tells}
 use Rattle.ground.specs.Laws.{Residues}
-use Rattle.whole.specs.Whole.{Modulus, whole}
+use Rattle.ground.specs.Modulus.{IsModulus}
+use Rattle.whole.specs.Whole.{whole}
 
 apart : (m u v k l : ℕ) → u < m → v < m → u + k * m ≡ v + l * m → u ≡ v
 apart m u v k l h g e =
     sym (mod-eq-of-lt h) ∙ sym (add-mul-mod-self-right u k m) ∙ ap (λ n. n % m) e ∙ add-mul-mod-self-right v l m ∙ mod-eq-of-lt g
 
-pub whole-residues : (m : ℕ) → Modulus m → Residues (whole m)
+pub whole-residues : (m : ℕ) → IsModulus m → Residues (whole m)
 whole-residues m is = record {
   odd-modulus = ne-eqb (m % 2) 0 (omega arith);
   one-residue = omega arith;

@@ -1,47 +1,50 @@
-// Whole numbers as a ground: the odd numbers from 3 to 2147483647 as moduli.
-ghost use mathlib.Core.Path.{_≡_};
+// Whole numbers as a ground.
 ghost use mathlib.Core.List.{[]};
+ghost use mathlib.Core.Path.{_≡_};
 ghost use Rattle.std.specs.Results.{Cases};
 ghost use Rattle.answers.specs.Answers.{Refused, told};
-ghost use Rattle.whole.specs.Whole.{Modulus, whole, Answers};
+ghost use Rattle.ground.specs.Division.{Answers};
+ghost use Rattle.ground.specs.Modulus.{IsModulus};
+ghost use Rattle.whole.specs.Whole.{whole};
 use answers::Quotient;
 use answers::Refusal;
 use ground::Ground;
+use ground::Modulus;
 use ground::divide;
 
-mod modulus;
-
-pub use modulus::Whole;
+// Whole numbers with a modulus.
+#[derive(Clone, Copy)]
+pub struct Whole {
+    modulus: Modulus,
+}
 
 impl Whole {
     // The whole numbers modulo `modulus`; a number that is no modulus is refused.
     pub fn new(modulus: u32) -> Result<Whole, Refusal>
-        ensures { λ r. ⌜ Cases r (λ w. Modulus modulus × (w .modulus ≡ modulus)) (λ e. (Modulus modulus → ⊥) × Refused e 1 []) ⌝ }
+        ensures { λ r. ⌜ Cases r (λ w. IsModulus modulus × (w .modulus .value ≡ modulus)) (λ e. (IsModulus modulus → ⊥) × Refused e 1 []) ⌝ }
     {
-        if modulus % 2 == 0 || modulus < 3 || modulus > 2147483647 {
-            return Err(Refusal::Modulus);
-        }
+        let modulus = Modulus::new(modulus)?;
         Ok(Whole { modulus })
     }
 }
 
 // The quotient of y by x on whole numbers modulo `modulus`.
 pub fn quotient(modulus: u32, y: u32, x: u32) -> Result<Quotient, Refusal>
-    ensures { λ r. ⌜ Answers modulus y x (told r) ⌝ }
+    ensures { λ r. ⌜ Answers whole modulus y x (told r) ⌝ }
 {
     let ground = Whole::new(modulus)?;
     divide(&ground, y, x)
 }
 
 pub impl Ground for Whole as WholeGround {
-    ghost meaning = { λ w. whole (w .modulus) };
+    ghost meaning = { λ w. whole (w .modulus .value) };
 
     fn modulus(&self) -> u32 {
-        self.modulus
+        self.modulus.value()
     }
 
     fn size(&self) -> u32 {
-        self.modulus
+        self.modulus.value()
     }
 
     fn is_even(&self, a: u32) -> bool {
@@ -61,7 +64,7 @@ pub impl Ground for Whole as WholeGround {
         if u % 2 == 0 {
             u / 2
         } else {
-            ((u as u64 + self.modulus as u64) / 2) as u32
+            ((u as u64 + self.modulus.value() as u64) / 2) as u32
         }
     }
 
@@ -69,7 +72,7 @@ pub impl Ground for Whole as WholeGround {
         if u >= v {
             u - v
         } else {
-            self.modulus.saturating_sub(v - u)
+            self.modulus.value().saturating_sub(v - u)
         }
     }
 }

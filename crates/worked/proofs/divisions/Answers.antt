@@ -2,13 +2,13 @@ use mathlib.Core.Path.{refl}
 use lib.Dec.{lit≤}
 use Rattle.ground.specs.Bits.{bits}
 use Rattle.ground.specs.Loop.{runs}
-use Rattle.whole.specs.Whole.{Modulus}
+use Rattle.ground.specs.Modulus.{IsModulus}
 use Rattle.worked.proofs.divisions.Needs as need
 
-seven : Modulus 7
+seven : IsModulus 7
 seven = record { odd = refl; least = lit≤ tt; most = lit≤ tt }
 
-fifteen : Modulus 15
+fifteen : IsModulus 15
 fifteen = record { odd = refl; least = lit≤ tt; most = lit≤ tt }
 
 pub returns : need.returns

@@ -14,10 +14,10 @@ pub returns-in-Err : need.returns-in-Err
 returns-in-Err g c =
     let wrong = c .in-Err .ensures tt in
     let none = wrong-blank (c .args .line .now) (c .in-Err .fault) (wrong .0) (sym (c .if-is-blank .ensures tt)) in
-    empty none (wrong .1) (rw (c .line-number .ensures .after) at (c .blank .ensures))
+    empty none (wrong .1) (rw (c .line-number .ensures .after) at (c .count .ensures))
 
 pub returns-in-Err-2 : need.returns-in-Err-2
 returns-in-Err-2 g c =
     let wrong = c .in-Err .ensures tt in
     let some = wrong-not-blank (c .args .line .now) (c .in-Err .fault) (wrong .0) (sym (c .if-is-blank .ensures tt)) in
-    unread some (wrong .1) (rw (c .line-number .ensures .after) at (c .unreadable .ensures))
+    unread some (wrong .1) (rw (c .line-number .ensures .after) at (c .count-in-Err-2 .ensures))

@@ -8,5 +8,5 @@ lawful-law w = record {
   ring = whole-ring;
   parity = whole-parity;
   shrinking = whole-shrinking;
-  residues = whole-residues (w .modulus) (record { odd = w .odd; least = w .least; most = w .most });
+  residues = whole-residues (w .modulus .value) (record { odd = w .modulus .odd; least = w .modulus .least; most = w .modulus .most });
 }
