@@ -5,6 +5,7 @@ use mathlib.Core.List.{List, [], _∷_}
 use Prim.Native.Nat.{ℕ, zero, suc, _-_, _≤_, _<_}
 use native.Mathlib.Omega.{arith}
 use borrow.Author.Tests.{eqb-true, eqb-false}
+use denote.Ref.{RefT}
 use lib.ListN.{length, getD}
 use Rattle.std.specs.Results.{Cases, ErrBy}
 use Rattle.std.specs.declared.result.Result.{Result}
@@ -40,9 +41,15 @@ wrong-asks-none line (NoNumber k w) (ws, is, e, low, high, at, not) q a =
     not (n .0) (subst (λ v. Writes v (n .0)) (sym (ap (λ l. getD l (k - 1) []) same) ∙ at) (n .1))
 
 -- what a reader returns that ends with the fault f
-pub refused : (line : List ℕ) (r : Result Question Fault) (e f : Fault) → ErrBy r (λ y. y ≡ e) → e ≡ f → Wrong line f → Cases r (Asks line) (λ y. Wrong line y × AsksNone line)
-refused line (Ok q) e f b s wrong = absurd b
-refused line (Err y) e f b s wrong = rw (b ∙ s) (wrong, wrong-asks-none line f wrong)
+pub read-wrong : (line : List ℕ) (r : Result Question Fault) (e f : Fault) → ErrBy r (λ y. y ≡ e) → e ≡ f → Wrong line f → Cases r (Asks line) (λ y. Wrong line y × AsksNone line)
+read-wrong line (Ok q) e f b s wrong = absurd b
+read-wrong line (Err y) e f b s wrong = rw (b ∙ s) (wrong, wrong-asks-none line f wrong)
+
+-- one that ends since word k of four is no number
+pub read-no-number : (line : List ℕ) (ws : List (List ℕ)) (r : Result Question Fault) (e : Fault) (k : ℕ) (w : RefT (List ℕ))
+    → Words line ws → length ws ≡ 4 → 1 < k → k ≤ 4 → getD ws (k - 1) [] ≡ w .now → ErrBy r (λ y. y ≡ e)
+    → (e ≡ NoNumber k w) × ((n : ℕ) → Writes (w .now) n → ⊥) → Cases r (Asks line) (λ y. Wrong line y × AsksNone line)
+read-no-number line ws r e k w is long low high at b (named, not) = read-wrong line r e (NoNumber k w) b named (ws, is, long, low, high, at, not)
 
 pub wrong-blank : (line : List ℕ) (f : Fault) → Wrong line f → blank f ≡ true → Words line []
 wrong-blank line NotText wrong e = absurd (true≢false (sym e))

@@ -1,5 +1,5 @@
 -- How many binary digits a number has. Assumes nothing.
---   bits n    the count of binary digits of n, and 0 for n = 0
+--   bits n    how long n is in binary; 0 has length 0
 use mathlib.Core.Path.{_≡_, refl}
 use Prim.Native.Nat.{ℕ, zero, suc, _/_}
 

@@ -1,6 +1,6 @@
 -- The laws that a ground has to show. Assumes nothing.
---   Ring        a commutative ring without zero divisors, or its part from 0 up
---   Parity      the even values are the multiples of the base
+--   Ring        values add and multiply as in an integral domain, or as what is not negative in one
+--   Parity      to be even is to be a multiple of the base
 --   Shrinking   halving takes binary digits away
 --   Residues    the residues of the modulus stay residues, and no two of them are congruent
 --   Laws        all of these
@@ -27,7 +27,7 @@ pub record Ring (o : Operations) : Type 0 where
   -- the difference is what makes a of b, where anything does
   pub difference-sum : (a b : ℕ) → o .subtractable a b ≡ true → o .sum (o .difference a b) b ≡ a
   pub sum-subtractable : (a b : ℕ) → o .subtractable (o .sum a b) b ≡ true
-  -- a ring subtracts every value; in its part from 0 up only the smaller is subtracted
+  -- either every difference is a value, or just those of a value and one that is not larger
   pub subtracts : ((a b : ℕ) → o .subtractable a b ≡ true) ⊎ ((a b : ℕ) → o .subtractable a b ≡ leb b a)
 
 pub record Parity (o : Operations) : Type 0 where
@@ -39,7 +39,7 @@ pub record Parity (o : Operations) : Type 0 where
 
 pub record Shrinking (o : Operations) : Type 0 where
   pub half-bits : (a : ℕ) → 0 < a → o .even a ≡ true → bits (o .half a) + 1 ≡ bits a
-  -- half the difference of two unequal odd values has fewer bits than the larger
+  -- an odd value less a smaller odd one, halved, is shorter than it was
   pub difference-bits : (a b : ℕ) → o .even a ≡ false → o .even b ≡ false → b < a → bits (o .half (o .difference a b)) < bits a
 
 pub record Residues (m : Meaning) : Type 0 where

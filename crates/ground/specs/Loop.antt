@@ -66,7 +66,7 @@ unfoldable pub runs : Meaning → ℕ → Registers → ℕ → Outcome
 runs m zero s n = ended s n
 runs m (suc most) s n = let rest = runs m most (step m s) (n + 1) in cond (eqb (s .a) (s .b)) (ended s n) rest
 
--- For x = 0 no step is taken, and the common divisor is the modulus. No other run is longer than the bits of x and of the
--- modulus together.
+-- The divisor 0 ends the loop where it begins, with the modulus as the common divisor. No other run is longer than the bits
+-- of x and of the modulus together.
 abbrev pub outcome : Meaning → ℕ → ℕ → Outcome
 outcome m y x = let ran = runs m (bits x + bits (m .modulus)) (start m y x) 0 in cond (eqb x 0) (ended (start m y x) 0) ran
