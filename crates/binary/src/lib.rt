@@ -1,4 +1,6 @@
 // Binary polynomials as a ground: a number stands for the polynomial whose coefficients are its binary digits.
+#![tactic(auto)]
+
 ghost use Rattle.answers.specs.Answers.{told};
 ghost use Rattle.ground.specs.Division.{Answers};
 ghost use Rattle.ground.specs.Modulus.{Made};

@@ -1,4 +1,6 @@
 // Reads divisions from standard input, one to a line, and prints each with its answer; the last line sums them up.
+#![tactic(auto)]
+
 mod answer;
 mod question;
 mod respond;

@@ -1,4 +1,6 @@
 // What a ground is, and the division loop, written and proved once for every ground.
+#![tactic(auto)]
+
 ghost use Rattle.std.specs.Prelude.{◌≡◌};
 ghost use Rattle.ground.specs.Operations.{Meaning, halved, subtracted};
 ghost use Rattle.ground.specs.Laws.{Laws};

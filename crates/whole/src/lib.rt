@@ -1,4 +1,6 @@
 // Whole numbers as a ground.
+#![tactic(auto)]
+
 ghost use Rattle.std.specs.Prelude.{◌≡◌, [], MatchResult};
 ghost use Rattle.answers.specs.Answers.{Refused, told};
 ghost use Rattle.ground.specs.Division.{Answers};

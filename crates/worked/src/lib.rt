@@ -1,4 +1,6 @@
 // The worked examples: one computed check over the definitions, and the code's own answers.
+#![tactic(auto)]
+
 ghost use Rattle.std.specs.Prelude.{◌≡◌, map};
 ghost use Rattle.answers.specs.Answers.{told};
 ghost use Rattle.worked.specs.Worked.{answers, Worked};

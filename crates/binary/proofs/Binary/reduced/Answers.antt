@@ -10,8 +10,8 @@ pub loop-place-init : goal.loop-place-init
 unfolding remainder
 loop-place-init c = let none : c.args.a / 2 ^ 64 ≡ 0 = div-eq_of_lt (omega arith) in rw none
 
-pub with-digit-r-requires : goal.with-digit-r-requires
-with-digit-r-requires c =
+pub with_digit-r-requires : goal.with_digit-r-requires
+with_digit-r-requires c =
     let m = c.args.self.now.modulus in
     rw c.loop-place.invariant
     (lt_of_lt_of_le (remainder_below m.value (omega (arith, m.least)) (c.args.a / 2 ^ c.loop-place.place))

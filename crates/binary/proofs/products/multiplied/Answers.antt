@@ -11,8 +11,8 @@ pub loop-place-init : goal.loop-place-init
 unfolding clmul
 loop-place-init c = let none : c.args.a / 2 ^ 32 ≡ 0 = div-eq_of_lt (omega arith) in rw none
 
-pub with-digit-r-requires : goal.with-digit-r-requires
-with-digit-r-requires c =
+pub with_digit-r-requires : goal.with_digit-r-requires
+with_digit-r-requires c =
     let a = c.args.a in let place = c.loop-place.place in
     let short : a / 2 ^ place < 2 ^ 31 = omega (arith, digits_above a place (omega arith), shr_le a (place - 1)) in
     rw c.loop-place.invariant (product_below 31 32 (a / 2 ^ place) c.args.b short (omega arith))

@@ -11,4 +11,4 @@ no_plus (b ∷ bs) none e = none bs (ap (λ x. x ∷ bs) e)
 
 pub returns-in-Ok : goal.returns-in-Ok
 returns-in-Ok c =
-    rw (without_leading_plus_none c.args.word.now (no_plus c.args.word.now c.if-starts-with.ensures.cases)) at c.in-Ok.ensures.value.0
+    rw (without_leading_plus_none c.args.word.now (no_plus c.args.word.now c.if-starts_with.ensures.cases)) at c.in-Ok.ensures.value.0

@@ -13,11 +13,11 @@ returns-in-Ok g c =
 pub returns-in-Err : goal.returns-in-Err
 returns-in-Err g c =
     let wrong = c.in-Err.ensures in
-    let none = wrong_blank c.args.line.now c.in-Err.fault wrong.0 (sym c.if-is-blank.ensures) in
+    let none = wrong_blank c.args.line.now c.in-Err.fault wrong.0 (sym c.if-is_blank.ensures) in
     empty none wrong.1 (rw c.line-number.ensures.after at c.count.ensures)
 
 pub returns-in-Err-2 : goal.returns-in-Err-2
 returns-in-Err-2 g c =
     let wrong = c.in-Err.ensures in
-    let some = wrong_not_blank c.args.line.now c.in-Err.fault wrong.0 (sym c.if-is-blank.ensures) in
+    let some = wrong_not_blank c.args.line.now c.in-Err.fault wrong.0 (sym c.if-is_blank.ensures) in
     unread some wrong.1 (rw c.line-number.ensures.after at c.count-in-Err-2.ensures)
