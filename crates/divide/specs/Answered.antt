@@ -8,7 +8,7 @@ use Rattle.divide.specs.declared.answer.Answer.TheVariants.{Served, Refused, NoG
 use Rattle.divide.specs.declared.question.Code.TheVariants.{Whole, Binary}
 use Rattle.divide.specs.declared.question.Question.{Question}
 
--- Whole numbers answer as their division does; there is no ground of binary polynomials yet.
+-- Whole numbers answer as their division does; binary polynomials are not divided here yet.
 abbrev pub Answered : Question → Answer → Type 0
 Answered q (Served s) = (q.code ≡ Whole) × Answers whole q.modulus q.dividend q.divisor (told (Ok s))
 Answered q (Refused e) = (q.code ≡ Whole) × Answers whole q.modulus q.dividend q.divisor (told (Err e))

@@ -6,7 +6,6 @@ ghost use Rattle.divide.specs.Text.{answer_text};
 use crate::question::{Code, Question};
 use answers::{Quotient, Refusal};
 use std::fmt;
-use std::fmt::Display;
 use whole::quotient;
 
 #[derive(Clone, Copy)]
