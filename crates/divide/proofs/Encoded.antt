@@ -1,6 +1,6 @@
 -- A line that asks a question is UTF-8. Assumes nothing.
 use Rattle.std.proofs.Common.{◌≡◌, ℕ, ◌<◌, true, false, List, [], ◌∷◌, ◌++◌, IsUtf8, refl, arith}
-use lib.Utf8.{scalars, encode, low_scalar}
+use Rattle.std.proofs.Math.Utf8.{scalars, encode, low_scalar}
 use Rattle.std.proofs.lemmas.Fmt.{IsAscii-from_digits}
 use Rattle.std.proofs.lemmas.Str.{IsUtf8-append, IsUtf8-from_ascii}
 use Rattle.std.proofs.lemmas.Bool.Decides.{nat_tests}

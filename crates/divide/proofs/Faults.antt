@@ -1,6 +1,6 @@
 -- A line with a fault asks no question. Assumes nothing.
 use Rattle.std.proofs.Common.{◌≡◌, ℕ, zero, suc, ◌-◌, ◌<◌, ◌≤◌, true, false, List, [], ◌∷◌, length, get_or, IsErrAnd, Ok, Err, Result, sym, ap, ◌∙◌, subst, true≢false, arith, Bor, eqb-true, MatchResult}
-use borrow.Author.Tests.{eqb-false}
+use Rattle.std.proofs.lemmas.Bool.{eqb-false}
 use Rattle.divide.specs.declared.question.Fault.{Fault}
 use Rattle.divide.specs.declared.question.Fault.TheVariants.{NotText, Words as WordsFault, NoGround, NoNumber}
 use Rattle.divide.specs.declared.question.Question.{Question}

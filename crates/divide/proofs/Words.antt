@@ -1,6 +1,6 @@
 -- A text has one list of words. Assumes nothing.
 use Rattle.std.proofs.Common.{◌≡◌, ℕ, suc, ◌<◌, Bool, true, false, not, List, [], ◌∷◌, ◌++◌, map, length, sym, refl, ap, ◌∙◌, true≢false, append_assoc, append-nil, arith, length-append, Bor}
-use lib.Utf8.{encode, encodes}
+use Rattle.std.proofs.Math.Utf8.{encode, encodes}
 use Rattle.std.specs.Iterator.{Yields, Drains}
 use Rattle.std.specs.Str.Iter.{split_whitespace_rest, split_whitespace_steps}
 use Rattle.std.specs.Char.{is_whitespace, is_not_whitespace}

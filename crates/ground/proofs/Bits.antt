@@ -1,7 +1,7 @@
 -- Laws of the count of binary digits. Assumes nothing.
 use Rattle.std.proofs.Common.{◌≡◌, ℕ, zero, suc, ◌+◌, ◌/◌, ◌^◌, ◌<◌, ◌≤◌, refl, ap, ◌∙◌, suc-le-suc, zero-le, le_refl, not-suc-le-zero, pow-suc, arith, lit<}
-use native.Mathlib.Decide.{le_ind}
-use lib.Arith.{half_le, bin_ind}
+use Rattle.std.proofs.Math.Decide.{le_ind}
+use Rattle.std.proofs.Math.Arith.{half_le, bin_ind}
 use Rattle.ground.specs.Bits.{bits, digits}
 
 -- digits beyond the number's own are none

@@ -1,8 +1,8 @@
 -- Binary digits: how a fold takes up the next one, and what the lowest tells. Assumes nothing.
 use Rattle.std.proofs.Common.{◌≡◌, ℕ, zero, suc, ◌-◌, ◌/◌, ◌%◌, ◌^◌, ◌<◌, ◌≤◌, false, eqb, sym, refl, ap, ◌∙◌, le_refl, not-suc-le-zero, arith, shr-shr}
-use native.Mathlib.Decide.{le_ind}
-use borrow.Author.Tests.{eqb-false}
-use lib.Arith.{half_le}
+use Rattle.std.proofs.Math.Decide.{le_ind}
+use Rattle.std.proofs.lemmas.Bool.{eqb-false}
+use Rattle.std.proofs.Math.Arith.{half_le}
 use Rattle.ground.specs.Digits.{folded, fold}
 
 module _ (f : ℕ → ℕ → ℕ) where

@@ -1,6 +1,6 @@
 -- The promises of a division, from where its loop ends. Assumes nothing.
 use Rattle.std.proofs.Common.{◌≡◌, ℕ, ◌+◌, ◌<◌, Bool, true, false, cond, eqb, sym, refl, ap, ◌∙◌, subst, ap₂, le_refl, arith, eqb-true}
-use borrow.Author.Tests.{eqb-false}
+use Rattle.std.proofs.lemmas.Bool.{eqb-false}
 use Rattle.ground.specs.Bits.{bits}
 use Rattle.ground.specs.Operations.{Meaning, Divides, Greatest, Congruent, Solves, UnitOf}
 use Rattle.ground.specs.Laws.{Laws}

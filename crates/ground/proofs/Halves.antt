@@ -1,7 +1,7 @@
 -- Halving on a ground, from the laws of parity: the base has an inverse modulo an odd modulus, and what is odd and divides
 -- a double divides its half. Assumes nothing.
 use Rattle.std.proofs.Common.{◌≡◌, ℕ, Bool, true, false, sym, refl, ap, ◌∙◌, arith}
-use borrow.Author.Tests.{both_ways}
+use Rattle.std.proofs.lemmas.Bool.{both_ways}
 use Rattle.ground.specs.Operations.{Operations, Divides, Congruent}
 use Rattle.ground.specs.Laws.{Ring, Parity}
 use Rattle.ground.proofs.Rings as rings

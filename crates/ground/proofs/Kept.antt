@@ -1,6 +1,6 @@
 -- What every step of the division loop keeps, and that a step takes bits from the registers A and B. Assumes nothing.
 use Rattle.std.proofs.Common.{◌≡◌, ℕ, zero, suc, ◌+◌, ◌<◌, Bool, true, false, cond, ltb, sym, refl, ap, ◌∙◌, ap₂, arith, ltb-false, ltb-true}
-use borrow.Author.Tests.{both_ways}
+use Rattle.std.proofs.lemmas.Bool.{both_ways}
 use Rattle.ground.specs.Bits.{bits}
 use Rattle.ground.specs.Operations.{Meaning, Divides, Congruent, halved, subtracted}
 use Rattle.ground.specs.Laws.{Laws}

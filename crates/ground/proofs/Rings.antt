@@ -1,7 +1,7 @@
 -- A ground's sums, products and divisors, from the laws of a ring or of its part from 0 up. Assumes nothing.
 use Rattle.std.proofs.Common.{◌≡◌, ℕ, ◌≤◌, Bool, true, false, leb, sym, refl, ap, ◌∙◌, ⊎_elim, arith, le-leb, leb-false, leb-true}
-use native.Mathlib.Decide.{dec_le}
-use borrow.Author.Tests.{both_ways}
+use Rattle.std.proofs.Math.Decide.{dec_le}
+use Rattle.std.proofs.lemmas.Bool.{both_ways}
 use Rattle.ground.specs.Operations.{Operations, Divides}
 use Rattle.ground.specs.Laws.{Ring}
 

@@ -1,6 +1,6 @@
 -- Where the division loop ends. Assumes nothing.
 use Rattle.std.proofs.Common.{◌≡◌, ℕ, zero, suc, ◌+◌, ◌-◌, ◌<◌, ◌≤◌, Bool, true, false, cond, eqb, refl, ap, ◌∙◌, arith, eq-eqb, ne_eqb, eqb-true}
-use borrow.Author.Tests.{eqb-false}
+use Rattle.std.proofs.lemmas.Bool.{eqb-false}
 use Rattle.ground.specs.Bits.{bits}
 use Rattle.ground.specs.Operations.{Meaning}
 use Rattle.ground.specs.Laws.{Laws}

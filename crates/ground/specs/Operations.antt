@@ -6,7 +6,7 @@
 --   Greatest a b g      g is the greatest common divisor of a and b
 --   Congruent m a b     a and b are congruent modulo m
 --   Solves m y x r      the residue r is a quotient of y by x
---   UnitOf m x         x has an inverse
+--   UnitOf m x          x has an inverse
 use Rattle.std.specs.Prelude.{◌≡◌, ℕ, ◌<◌, Bool, cond}
 
 -- A ground's values are the numbers 0, 1, 2, .. under operations of its own; its zero is 0 and its one is 1.

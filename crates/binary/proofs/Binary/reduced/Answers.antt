@@ -1,5 +1,5 @@
 use Rattle.std.proofs.Common.{◌≡◌, ◌-◌, ◌/◌, ◌^◌, lt_of_lt_of_le, arith, pow_mono}
-use native.Mathlib.Nat.{div-eq_of_lt}
+use Rattle.std.proofs.Math.Nat.{div-eq_of_lt}
 use Rattle.ground.proofs.Bits.{bits_le}
 use Rattle.binary.specs.Remainders.{remainder}
 use Rattle.ground.proofs.Digits.{digits_above}

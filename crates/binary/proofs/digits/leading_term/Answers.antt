@@ -1,6 +1,7 @@
 -- The leading zeros tell the place of the highest digit.
 use Rattle.std.proofs.Common.{◌≡◌, suc, ◌-◌, ◌/◌, ◌<◌, ◌≤◌, mod-eq_of_lt, one-mul, lt_of_not-le, arith, pow_mono}
-use lib.Count.{count_leading_zeros, leading_top}
+use Rattle.std.specs.Int.Count.{count_leading_zeros}
+use Rattle.std.proofs.lemmas.Nat.{leading_top}
 use Rattle.ground.proofs.Bits.{bits_half, bits_below, bits_le}
 use Rattle.ground.specs.Bits.{bits}
 use Rattle.binary.proofs.digits.leading_term.Goals as goal

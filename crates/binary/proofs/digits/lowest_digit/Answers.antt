@@ -1,4 +1,4 @@
-use lib.Bits.{and_mask}
+use Rattle.std.proofs.lemmas.Nat.{and_mask}
 use Rattle.binary.proofs.digits.lowest_digit.Goals as goal
 
 pub returns : goal.returns

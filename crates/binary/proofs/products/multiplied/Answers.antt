@@ -1,6 +1,6 @@
 use Rattle.std.proofs.Common.{◌≡◌, ◌-◌, ◌/◌, ◌^◌, ◌<◌, arith}
-use native.Mathlib.Nat.{div-eq_of_lt}
-use lib.Pow.{shr_le}
+use Rattle.std.proofs.Math.Nat.{div-eq_of_lt}
+use Rattle.std.proofs.lemmas.Nat.{shr_le}
 use Rattle.binary.specs.Carryless.{clmul}
 use Rattle.binary.specs.CarrylessLemmas.{clmul_step}
 use Rattle.binary.specs.Degrees.{product_below}

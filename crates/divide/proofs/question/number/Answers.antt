@@ -1,6 +1,6 @@
 -- A word with no plus in front is all that `parse` reads.
 use Rattle.std.proofs.Common.{◌≡◌, ℕ, List, [], ◌∷◌, ◌++◌, get_or, ap, arith}
-use lib.Utf8.{encode}
+use Rattle.std.proofs.Math.Utf8.{encode}
 use Rattle.std.proofs.lemmas.Str.Parse.{without_leading_plus_none}
 use Rattle.divide.proofs.question.number.Goals as goal
 

@@ -1,5 +1,5 @@
 use Rattle.std.proofs.Common.{[], ◌∷◌, Err, sym, refl, ◌∙◌, arith}
-use lib.ListN.{length-map}
+use Rattle.std.proofs.lemmas.List.{length-map}
 use Rattle.divide.specs.declared.question.Fault.TheVariants.{Words as WordsFault, NoGround}
 use Rattle.divide.proofs.Faults.{read_wrong, read_no_number}
 use Rattle.divide.proofs.Words.{words_from_drains}
