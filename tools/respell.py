@@ -2,7 +2,7 @@
 """Brings the repository's own words in contracts, specs/ and proofs/ to one spelling: snake case for what is a value or a
 lemma, camel case for what is a fact. Run once at the top of the repository, after the toolchain's own respelling.
 
-Names of functions in src/, strings, inputs and outputs have no dash, so none of them is touched; names that the library
+No function of src/, string, input or output has one of these names, so none of them is touched; names that the library
 or the prover gives are not in the table, and stay as they are.
 """
 
