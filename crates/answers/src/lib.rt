@@ -3,9 +3,7 @@
 #![tactic(auto)]
 
 mod quotient;
-mod quotient_display;
 mod refusal;
-mod refusal_display;
 
 pub use quotient::Quotient;
 pub use refusal::{Operand, Refusal};

@@ -1,5 +1,12 @@
 // Why the arithmetic layer refused a call.
-#[derive(Clone, Copy)]
+ghost use Rattle.std.specs.Prelude.{◌≡◌, Some};
+ghost use Rattle.answers.specs.Answers.{ordinal, number};
+ghost use Rattle.answers.specs.Text.{refused_text};
+
+use std::error::Error;
+use std::fmt;
+
+#[derive(Clone, Copy, Debug, PartialEq, Eq)]
 pub enum Refusal {
     // 1: the number is no modulus
     Modulus,
@@ -10,8 +17,48 @@ pub enum Refusal {
 }
 
 // Which operand of a call: the first is looked at first.
-#[derive(Clone, Copy)]
+#[derive(Clone, Copy, Debug, PartialEq, Eq)]
 pub enum Operand {
     First,
     Second,
 }
+
+impl Operand {
+    pub fn number(self) -> u32
+        ensures { result ≡ ordinal self }
+    {
+        match self {
+            Operand::First => 1,
+            Operand::Second => 2,
+        }
+    }
+}
+
+impl Refusal {
+    // Its number in the list of refusals.
+    pub fn number(&self) -> u32
+        ensures { result ≡ number self.now }
+    {
+        match self {
+            Refusal::Modulus => 1,
+            Refusal::Operand { .. } => 2,
+            Refusal::NotUnit { .. } => 3,
+        }
+    }
+}
+
+// In words: `refused NUMBER`, and its values.
+impl fmt::Display for Refusal {
+    ghost output = { λ e. Some (refused_text e) };
+
+    fn fmt<W: fmt::Write>(&self, f: &mut fmt::Formatter<W>) -> fmt::Result {
+        write!(f, "refused {}", self.number())?;
+        match *self {
+            Refusal::Modulus => Ok(()),
+            Refusal::Operand { which } => write!(f, " {}", which.number()),
+            Refusal::NotUnit { witness, steps } => write!(f, " {witness} {steps}"),
+        }
+    }
+}
+
+impl Error for Refusal {}

@@ -2,12 +2,6 @@
 ghost use Rattle.std.specs.Prelude.{◌≡◌, ◌/◌, ◌%◌, ◌^◌, ◌<◌};
 ghost use Rattle.ground.specs.Bits.{bits};
 
-pub(crate) fn lowest_digit(a: u32) -> u32
-    ensures { result ≡ a % 2 }
-{
-    a & 1
-}
-
 // The digit of a at `place`; the lowest digit is at place 0.
 pub(crate) fn digit(a: u64, place: u32) -> u32
     requires { place < 64 }

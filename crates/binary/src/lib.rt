@@ -1,16 +1,11 @@
 // Binary polynomials as a ground: a number stands for the polynomial whose coefficients are its binary digits.
 #![tactic(auto)]
 
-ghost use Rattle.answers.specs.Answers.{told};
-ghost use Rattle.ground.specs.Division.{Answers};
-ghost use Rattle.ground.specs.Modulus.{Made};
 ghost use Rattle.binary.specs.Binary.{binary};
-ghost use Rattle.ground.proofs.Moduli.{is_modulus};
 ghost use Rattle.binary.specs.Laws.{binary_laws};
 
-use crate::digits::{leading_term, lowest_digit};
-use answers::{Quotient, Refusal};
-use ground::{Ground, Modulus, divide};
+use crate::digits::leading_term;
+use ground::{Ground, Modulus};
 
 mod digits;
 mod products;
@@ -18,34 +13,17 @@ mod reduction;
 
 pub use products::product;
 
-// Binary polynomials with a modulus.
+// Binary polynomials with a modulus. `Whole` holds the same: one struct for both would be generic over a kind of number that
+// has no values, and each ground a name for it.
 #[derive(Clone, Copy)]
 pub struct Binary {
     modulus: Modulus,
 }
 
-impl Binary {
-    // The binary polynomials modulo `modulus`; a number that is no modulus is refused.
-    pub fn new(modulus: u32) -> Result<Binary, Refusal>
-        ensures { Made (λ b. b.modulus.value) modulus result }
-    {
-        let modulus = Modulus::new(modulus)?;
-        Ok(Binary { modulus })
-    }
-}
-
-// The quotient of y by x on binary polynomials modulo `modulus`.
-pub fn quotient(modulus: u32, y: u32, x: u32) -> Result<Quotient, Refusal>
-    ensures { Answers binary modulus y x (told result) }
-{
-    let ground = Binary::new(modulus)?;
-    divide(&ground, y, x)
-}
-
 impl Ground for Binary {
     ghost meaning = { λ b. binary b.modulus.value };
 
-    ghost lawful = { λ b. binary_laws b.modulus.value (is_modulus b.modulus) };
+    ghost lawful = { λ b. binary_laws b.modulus.value b.modulus.is_modulus };
 
     fn modulus(&self) -> u32 {
         self.modulus.value()
@@ -56,8 +34,9 @@ impl Ground for Binary {
         leading_term(self.modulus.value())
     }
 
+    // Parity and halves are those of whole numbers, in the form that is fixed for strings of bits: a mask and a shift.
     fn is_even(&self, a: u32) -> bool {
-        lowest_digit(a) == 0
+        a & 1 == 0
     }
 
     fn half(&self, a: u32) -> u32 {
@@ -69,21 +48,22 @@ impl Ground for Binary {
     }
 
     fn residue_half(&self, u: u32) -> u32 {
-        if lowest_digit(u) == 0 {
-            u >> 1
+        if self.is_even(u) {
+            self.half(u)
         } else {
-            (u ^ self.modulus.value()) >> 1
+            self.half(u ^ self.modulus.value())
         }
     }
 
     fn residue_difference(&self, u: u32, v: u32) -> u32 {
-        u ^ v
+        self.difference(u, v)
     }
 }
 
 #[cfg(test)]
 mod tests {
     use super::*;
+    use ground::Modular;
     use std::test::Fail;
 
     // The product that the standard of AES works out: 0x57 by 0x83 is 0xc1 modulo 0x11b.

@@ -16,24 +16,17 @@ fn with_digit(above: u64, digit: u32, b: u32) -> u64
     requires { above < 2 ^ 63 }
     ensures { result ≡ bit_xor (above * 2) (pick digit b) }
 {
-    (above << 1) ^ picked(digit, b) as u64
+    (above << 1) ^ u64::from(picked(digit, b))
 }
 
-// Takes up the digits of a from the highest to the lowest.
-fn multiplied(a: u32, b: u32) -> u64
-    ensures { result ≡ clmul a b }
-{
-    let mut r = 0;
-    for place in (0..u32::BITS).rev() {
-        r = with_digit(r, digit(a as u64, place), b);
-    }
-    r
-}
-
-// The product of the binary polynomials a and b.
+// The product of the binary polynomials a and b: takes up the digits of a from the highest to the lowest.
 pub fn product(a: u32, b: u32) -> u64
     ensures value { result ≡ clmul a b }
     ensures length { Lengths a b result }
 {
-    multiplied(a, b)
+    let mut r = 0;
+    for place in (0..u32::BITS).rev() {
+        r = with_digit(r, digit(u64::from(a), place), b);
+    }
+    r
 }

@@ -1,12 +1,11 @@
 // Remainders by the modulus.
-ghost use Rattle.std.specs.Prelude.{◌≡◌, ◌*◌, ◌^◌, ◌<◌, bit_xor};
-ghost use Rattle.ground.specs.Residues.{Reduces};
+ghost use Rattle.std.specs.Prelude.{◌≡◌, ◌*◌, ◌^◌, ◌<◌, bit_xor, refl};
 ghost use Rattle.binary.specs.Binary.{binary};
 ghost use Rattle.binary.specs.Remainders.{cut, remainder};
 
 use crate::Binary;
 use crate::digits::digit;
-use ground::Ground;
+use ground::{Ground, Modular, Modulus};
 
 impl Binary {
     // v, of the modulus's degree at most, brought below that degree.
@@ -27,23 +26,26 @@ impl Binary {
     {
         self.cut((above << 1) ^ digit)
     }
+}
 
-    // Takes up the digits of a from the highest to the lowest.
-    fn reduced(&self, a: u64) -> u32
-        ensures { result ≡ remainder self.now.modulus.value a }
-    {
+impl Modular for Binary {
+    ghost on = { binary };
+
+    ghost on_modulus = { λ _. refl };
+
+    ghost remainder = { λ b. remainder b.modulus.value };
+
+    fn over(modulus: Modulus) -> Binary {
+        Binary { modulus }
+    }
+
+    // Takes up the digits of a from the highest to the lowest, as `product` does. A loop for both would take the step and
+    // the bound on its values as two more parameters.
+    fn remainder(&self, a: u64) -> u32 {
         let mut r = 0;
         for place in (0..u64::BITS).rev() {
             r = self.with_digit(r, digit(a, place));
         }
         r
-    }
-
-    // The remainder of a: the one residue that is congruent to it.
-    pub fn remainder(&self, a: u64) -> u32
-        ensures value { result ≡ remainder self.now.modulus.value a }
-        ensures ring { Reduces (binary self.now.modulus.value) (remainder self.now.modulus.value) }
-    {
-        self.reduced(a)
     }
 }

@@ -1,10 +1,9 @@
 -- A line with a fault asks no question. Assumes nothing.
-use Rattle.std.proofs.Common.{◌≡◌, ℕ, zero, suc, ◌-◌, ◌<◌, ◌≤◌, true, false, List, [], ◌∷◌, length, get_or, IsErrAnd, Ok, Err, Result, sym, ap, ◌∙◌, subst, true≢false, arith, Bor, eqb-true, MatchResult}
-use Rattle.std.proofs.lemmas.Bool.{eqb-false}
+use Rattle.std.proofs.Common.{◌≡◌, ℕ, zero, suc, ◌-◌, ◌<◌, ◌≤◌, List, [], ◌∷◌, length, get_or, IsErrAnd, Ok, Err, Result, sym, ap, ◌∙◌, subst, arith, Bor, ◌≢◌, refl}
 use Rattle.divide.specs.declared.question.Fault.{Fault}
-use Rattle.divide.specs.declared.question.Fault.TheVariants.{NotText, Words as WordsFault, NoGround, NoNumber}
+use Rattle.divide.specs.declared.question.Fault.TheVariants.{NotText, Blank, Words as WordsFault, NoGround, NoNumber}
 use Rattle.divide.specs.declared.question.Question.{Question}
-use Rattle.divide.specs.Questions.{Words, NotWords, Writes, Asks, AsksNone, Wrong, blank}
+use Rattle.divide.specs.Questions.{Words, NotWords, Writes, WritesNone, Asks, AsksNone, Wrong, Read}
 use Rattle.divide.specs.Text.{code_text}
 use Rattle.divide.proofs.Encoded.{white_utf8, asks_utf8}
 use Rattle.divide.proofs.Words.{words_same}
@@ -23,7 +22,8 @@ asks_number a (suc (suc (suc (suc (suc k))))) l h = absurd (omega arith)
 
 pub wrong_asks_none : (line : List ℕ) (f : Fault) → Wrong line f → AsksNone line
 wrong_asks_none line NotText wrong q a = wrong (asks_utf8 line q a)
-wrong_asks_none line (WordsFault n) (ws, is, e, not) q a = let same = words_same line ws (four a) is a.words in not (sym e ∙ ap length same)
+wrong_asks_none line Blank is q a = omega (arith, ap length (words_same line [] (four a) is a.words))
+wrong_asks_none line (WordsFault n) (ws, is, e, some, not) q a = let same = words_same line ws (four a) is a.words in not (sym e ∙ ap length same)
 wrong_asks_none line (NoGround w) (ns, is, e, not) q a =
     let same = words_same line (w.now ∷ ns) (four a) is a.words in not q.code (ap (λ l. get_or l 0 []) same)
 wrong_asks_none line (NoNumber k w) (ws, is, e, low, high, at, not) q a =
@@ -32,26 +32,20 @@ wrong_asks_none line (NoNumber k w) (ws, is, e, low, high, at, not) q a =
     not n.0 (subst (λ v. Writes v n.0) (sym (ap (λ l. get_or l (k - 1) []) same) ∙ at) n.1)
 
 -- what a reader returns that ends with the fault f
-pub read_wrong : (line : List ℕ) (r : Result Question Fault) (e f : Fault) → IsErrAnd r (λ y. y ≡ e) → e ≡ f → Wrong line f → MatchResult r (Asks line) (λ y. Wrong line y × AsksNone line)
+pub read_wrong : (line : List ℕ) (r : Result Question Fault) (e f : Fault) → IsErrAnd r (λ y. y ≡ e) → e ≡ f → Wrong line f → Read line r
 read_wrong line (Ok q) e f b s wrong = absurd b
 read_wrong line (Err y) e f b s wrong = rw (b ∙ s) (wrong, wrong_asks_none line f wrong)
 
 -- one that ends since word k of four is no number
 pub read_no_number : (line : List ℕ) (ws : List (List ℕ)) (r : Result Question Fault) (e : Fault) (k : ℕ) (w : Bor (List ℕ))
     → Words line ws → length ws ≡ 4 → 1 < k → k ≤ 4 → get_or ws (k - 1) [] ≡ w.now → IsErrAnd r (λ y. y ≡ e)
-    → (e ≡ NoNumber k w) × ((n : ℕ) → Writes w.now n → ⊥) → MatchResult r (Asks line) (λ y. Wrong line y × AsksNone line)
+    → (e ≡ NoNumber k w) × WritesNone w.now → Read line r
 read_no_number line ws r e k w is long low high at b (named, not) = read_wrong line r e (NoNumber k w) b named (ws, is, long, low, high, at, not)
 
-pub wrong_blank : (line : List ℕ) (f : Fault) → Wrong line f → blank f ≡ true → Words line []
-wrong_blank line NotText wrong e = absurd (true≢false (sym e))
-wrong_blank line (WordsFault n) ([], is, len, not) e = is
-wrong_blank line (WordsFault n) (w ∷ ws, is, len, not) e = absurd (omega (arith, eqb-true n 0 e))
-wrong_blank line (NoGround w) wrong e = absurd (true≢false (sym e))
-wrong_blank line (NoNumber k w) wrong e = absurd (true≢false (sym e))
-
-pub wrong_not_blank : (line : List ℕ) (f : Fault) → Wrong line f → blank f ≡ false → NotWords line 0
+pub wrong_not_blank : (line : List ℕ) (f : Fault) → Wrong line f → f ≢ Blank → NotWords line 0
 wrong_not_blank line NotText wrong e [] is len = wrong (white_utf8 is)
 wrong_not_blank line NotText wrong e (w ∷ ws) is len = omega arith
-wrong_not_blank line (WordsFault n) (ws, has, long, not) e vs is len = omega (arith, eqb-false n 0 e, ap length (words_same line ws vs has is))
+wrong_not_blank line Blank wrong e vs is len = absurd (e refl)
+wrong_not_blank line (WordsFault n) (ws, has, long, some, not) e vs is len = omega (arith, some, ap length (words_same line ws vs has is))
 wrong_not_blank line (NoGround w) (ns, has, long, not) e vs is len = omega (arith, ap length (words_same line (w.now ∷ ns) vs has is))
 wrong_not_blank line (NoNumber k w) (ws, has, long, low, high, at, not) e vs is len = omega (arith, ap length (words_same line ws vs has is))

@@ -1,14 +1,15 @@
 -- What question a line asks. Assumes nothing.
 --   First, Words   a text's words, apart by white space
 --   Asks           the line's four words are the question's code and numerals of its numbers
---   Wrong, blank   what a fault says of the line, and that it says that there is no word
-use Rattle.std.specs.Prelude.{◌≡◌, ℕ, ◌-◌, ◌^◌, ◌<◌, ◌≤◌, Bool, false, List, [], ◌∷◌, ◌++◌, length, IsUtf8, ◌==◌, ◌≢◌, slice_index_or}
+--   Wrong          what a fault says of the line
+--   Read           what reading the line answers: its question, or a fault of it
+use Rattle.std.specs.Prelude.{◌≡◌, ℕ, ◌-◌, ◌^◌, ◌<◌, ◌≤◌, List, [], ◌∷◌, ◌++◌, length, IsUtf8, ◌≢◌, slice_index_or, Result, MatchResult}
 use Rattle.std.specs.Str.Parse.{IsNumeral, digits_value}
 use Rattle.std.specs.Char.{is_whitespace, is_not_whitespace}
 use Rattle.std.specs.Str.{NoCharPasses, EmptyOrStartsWithPassing}
 use Rattle.divide.specs.declared.question.Code.{Code}
 use Rattle.divide.specs.declared.question.Fault.{Fault}
-use Rattle.divide.specs.declared.question.Fault.TheVariants.{NotText, Words as WordsFault, NoGround, NoNumber}
+use Rattle.divide.specs.declared.question.Fault.TheVariants.{NotText, Blank, Words as WordsFault, NoGround, NoNumber}
 use Rattle.divide.specs.declared.question.Question.{Question}
 use Rattle.divide.specs.Text.{code_text}
 
@@ -25,9 +26,17 @@ Words bs (w ∷ ws) = (rest : List ℕ) × First bs w rest × Words rest ws
 abbrev pub NotWords : List ℕ → ℕ → Type 0
 NotWords bs n = (ws : List (List ℕ)) → Words bs ws → length ws ≢ n
 
+-- w is no ground's code
+abbrev pub NoCode : List ℕ → Type 0
+NoCode w = (c : Code) → w ≢ code_text c
+
 -- w writes n, which is below 2 ^ 32, in decimal digits
 abbrev pub Writes : List ℕ → ℕ → Type 0
 Writes w n = (IsNumeral 10 w × (digits_value 10 w < 2 ^ 32)) × (n ≡ digits_value 10 w)
+
+-- w writes no such number
+abbrev pub WritesNone : List ℕ → Type 0
+WritesNone w = (n : ℕ) → Writes w n → ⊥
 
 pub record Asks (line : List ℕ) (q : Question) : Type 0 where
   pub m : List ℕ
@@ -44,13 +53,11 @@ AsksNone line = (q : Question) → Asks line q → ⊥
 -- f is true of the line
 abbrev pub Wrong : List ℕ → Fault → Type 0
 Wrong line NotText = IsUtf8 line → ⊥
-Wrong line (WordsFault n) = (ws : List (List ℕ)) × Words line ws × (length ws ≡ n) × (n ≢ 4)
-Wrong line (NoGround w) = (ns : List (List ℕ)) × Words line (w.now ∷ ns) × (length ns ≡ 3) × ((c : Code) → w.now ≢ code_text c)
-Wrong line (NoNumber k w) = (ws : List (List ℕ)) × Words line ws × (length ws ≡ 4) × (1 < k) × (k ≤ 4) × (slice_index_or ws (k - 1) [] ≡ w.now) × ((n : ℕ) → Writes w.now n → ⊥)
+Wrong line Blank = Words line []
+Wrong line (WordsFault n) = (ws : List (List ℕ)) × Words line ws × (length ws ≡ n) × (n ≢ 0) × (n ≢ 4)
+Wrong line (NoGround w) = (ns : List (List ℕ)) × Words line (w.now ∷ ns) × (length ns ≡ 3) × NoCode w.now
+Wrong line (NoNumber k w) = (ws : List (List ℕ)) × Words line ws × (length ws ≡ 4) × (1 < k) × (k ≤ 4) × (slice_index_or ws (k - 1) [] ≡ w.now) × WritesNone w.now
 
--- f says that the line has no word
-abbrev pub blank : Fault → Bool
-blank NotText = false
-blank (WordsFault n) = n == 0
-blank (NoGround w) = false
-blank (NoNumber k w) = false
+-- what reading the line answers
+abbrev pub Read : List ℕ → Result Question Fault → Type 0
+Read line r = MatchResult r (Asks line) (λ f. Wrong line f × AsksNone line)

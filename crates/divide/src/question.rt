@@ -1,10 +1,11 @@
 // A line as a question, or what is wrong with it.
 ghost use Rattle.std.specs.Prelude.{◌≡◌, ℕ, [], ◌∷◌, Some, MatchOption, MatchResult, ◌≢◌};
-ghost use Rattle.divide.specs.declared.question.Fault.TheVariants.{NoGround, NoNumber};
-ghost use Rattle.divide.specs.Questions.{Words, NotWords, Writes, Asks, AsksNone, Wrong, blank};
-ghost use Rattle.divide.specs.Text.{code_text, question_text};
+ghost use Rattle.divide.specs.declared.question.Fault.TheVariants.{NotText, NoGround, NoNumber};
+ghost use Rattle.divide.specs.Questions.{Words, NotWords, NoCode, Writes, WritesNone, Wrong, Read};
+ghost use Rattle.divide.specs.Text.{code_text, question_text, fault_text};
 
 use std::fmt;
+use std::str::{Utf8Error, from_utf8};
 
 // A ground by its code: whole numbers, WN, or binary polynomials, BP.
 #[derive(Clone, Copy)]
@@ -26,34 +27,59 @@ pub struct Question {
 #[derive(Clone, Copy)]
 pub enum Fault<'a> {
     NotText,
+    Blank,
     Words { count: usize },
     NoGround { word: &'a str },
     NoNumber { place: u8, word: &'a str },
 }
 
-impl Fault<'_> {
-    // Whether the line has no word.
-    pub fn is_blank(&self) -> bool
-        ensures { result ≡ blank self.now }
-    {
-        matches!(self, Fault::Words { count: 0 })
+impl From<Utf8Error> for Fault<'_> {
+    ghost from_gives = { λ _ fault. fault ≡ NotText };
+
+    fn from(_: Utf8Error) -> Self {
+        Fault::NotText
     }
 }
 
-pub fn read(line: &str) -> Result<Question, Fault<'_>>
-    ensures { MatchResult result (Asks line.now) (λ f. Wrong line.now f × AsksNone line.now) }
+impl<'a> TryFrom<&'a [u8]> for Question {
+    type Error = Fault<'a>;
+
+    ghost try_from_gives = { λ line answer. Read line.now answer };
+
+    fn try_from(line: &'a [u8]) -> Result<Question, Fault<'a>> {
+        Question::try_from(from_utf8(line)?)
+    }
+}
+
+impl<'a> TryFrom<&'a str> for Question {
+    type Error = Fault<'a>;
+
+    ghost try_from_gives = { λ line answer. Read line.now answer };
+
+    fn try_from(line: &'a str) -> Result<Question, Fault<'a>> {
+        let Some((code, m, y, x)) = four_words(line) else {
+            return Err(miscounted(line));
+        };
+        Ok(Question {
+            code: Code::try_from(code)?,
+            modulus: number(2, m)?,
+            dividend: number(3, y)?,
+            divisor: number(4, x)?,
+        })
+    }
+}
+
+// What is wrong with a line that has not four words.
+fn miscounted(line: &str) -> Fault<'_>
+    requires { NotWords line.now 4 }
+    ensures { Wrong line.now result }
 {
-    let Some((code, m, y, x)) = four_words(line) else {
-        return Err(Fault::Words {
-            count: line.split_whitespace().count(),
-        });
-    };
-    Ok(Question {
-        code: ground(code)?,
-        modulus: number(2, m)?,
-        dividend: number(3, y)?,
-        divisor: number(4, x)?,
-    })
+    let count = line.split_whitespace().count();
+    if count == 0 {
+        Fault::Blank
+    } else {
+        Fault::Words { count }
+    }
 }
 
 // The words of a line that has just four.
@@ -62,33 +88,37 @@ fn four_words(line: &str) -> Option<(&str, &str, &str, &str)>
 {
     let mut words = line.split_whitespace();
     let four = (words.next()?, words.next()?, words.next()?, words.next()?);
+    // not `is_none().then_some(four)`, of which the proof didn't close
     match words.next() {
         None => Some(four),
         Some(_) => None,
     }
 }
 
-fn ground(word: &str) -> Result<Code, Fault<'_>>
-    ensures { MatchResult result (λ c. word.now ≡ code_text c) (λ f. (f ≡ NoGround word.entry) × ((c : Code) → word.now ≢ code_text c)) }
-{
-    match word {
-        "WN" => Ok(Code::Whole),
-        "BP" => Ok(Code::Binary),
-        _ => Err(Fault::NoGround { word }),
+impl<'a> TryFrom<&'a str> for Code {
+    type Error = Fault<'a>;
+
+    ghost try_from_gives = { λ word answer. MatchResult answer (λ c. word.now ≡ code_text c) (λ f. (f ≡ NoGround word) × NoCode word.now) };
+
+    fn try_from(word: &'a str) -> Result<Code, Fault<'a>> {
+        match word {
+            "WN" => Ok(Code::Whole),
+            "BP" => Ok(Code::Binary),
+            _ => Err(Fault::NoGround { word }),
+        }
     }
 }
 
-// The number that a word's digits write. `parse` would take a plus too.
+// The number that a word's digits write. `parse` would take a plus too. No `TryFrom`, which takes one value: the fault tells
+// the word's place.
 fn number(place: u8, word: &str) -> Result<u32, Fault<'_>>
-    ensures { MatchResult result (Writes word.now) (λ f. (f ≡ NoNumber place word.entry) × ((n : ℕ) → Writes word.now n → ⊥)) }
+    ensures { MatchResult result (Writes word.now) (λ f. (f ≡ NoNumber place word.entry) × WritesNone word.now) }
 {
     if word.starts_with('+') {
         return Err(Fault::NoNumber { place, word });
     }
-    match word.parse::<u32>() {
-        Ok(n) => Ok(n),
-        Err(_) => Err(Fault::NoNumber { place, word }),
-    }
+    word.parse::<u32>()
+        .map_err(|_| Fault::NoNumber { place, word })
 }
 
 impl fmt::Display for Code {
@@ -118,9 +148,12 @@ impl fmt::Display for Question {
 
 // What stands after `line N`.
 impl fmt::Display for Fault<'_> {
+    ghost output = { fault_text };
+
     fn fmt<W: fmt::Write>(&self, f: &mut fmt::Formatter<W>) -> fmt::Result {
         match *self {
             Fault::NotText => write!(f, ": not UTF-8 text"),
+            Fault::Blank => write!(f, ": no word"),
             Fault::Words { count: 1 } => write!(f, ": 1 word, 4 wanted: CODE M y x"),
             Fault::Words { count } => write!(f, ": {count} words, 4 wanted: CODE M y x"),
             Fault::NoGround { word } => write!(f, ", word 1: {word:?} is no ground (WN or BP)"),

@@ -1,41 +1,32 @@
 // What the program does with a line: it prints the line's answer, or what is wrong with it, and counts it.
-ghost use Rattle.std.specs.Result.{MatchResult};
 ghost use Rattle.divide.specs.Lines.{Counted};
-ghost use Rattle.divide.specs.Questions.{Asks, AsksNone, Wrong};
 
-use crate::answer::answered;
-use crate::question::{Fault, Question, read};
+use crate::answer::Reply;
+use crate::question::{Fault, Question};
 use crate::tally::{Kind, Tally};
 use std::io;
-use std::str::from_utf8;
 
 // A blank line is counted, and passed over.
 pub fn respond(rt: &impl Print, tally: &mut Tally, line: &[u8]) -> io::Result<()>
     ensures { Counted line.now tally.old tally.new }
 {
     let number = tally.line();
-    match asked(line) {
+    match Question::try_from(line) {
         Ok(question) => {
-            let answer = answered(&question);
-            tally.answer(&answer);
-            println!(rt; "{question} {answer}")
+            let answer = question.answer();
+            tally.count(Kind::from(answer));
+            println!(rt; "{}", Reply { question, answer })
         }
-        Err(fault) if fault.is_blank() => {
-            tally.count(Kind::Blank, 0);
-            Ok(())
-        }
-        Err(fault) => {
-            tally.count(Kind::Unreadable, 0);
-            println!(rt; "line {number}{fault}")
-        }
-    }
-}
-
-fn asked(line: &[u8]) -> Result<Question, Fault<'_>>
-    ensures { MatchResult result (Asks line.now) (λ f. Wrong line.now f × AsksNone line.now) }
-{
-    match from_utf8(line) {
-        Ok(text) => read(text),
-        Err(_) => Err(Fault::NotText),
+        // no `From` of a fault for its kind: this match also says whether a line is printed
+        Err(fault) => match fault {
+            Fault::Blank => {
+                tally.count(Kind::Blank);
+                Ok(())
+            }
+            _ => {
+                tally.count(Kind::Unreadable);
+                println!(rt; "line {number}{fault}")
+            }
+        },
     }
 }

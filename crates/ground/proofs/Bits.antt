@@ -1,21 +1,12 @@
 -- Laws of the count of binary digits. Assumes nothing.
-use Rattle.std.proofs.Common.{◌≡◌, ℕ, zero, suc, ◌+◌, ◌/◌, ◌^◌, ◌<◌, ◌≤◌, refl, ap, ◌∙◌, suc-le-suc, zero-le, le_refl, not-suc-le-zero, pow-suc, arith, lit<}
-use Rattle.std.proofs.Math.Decide.{le_ind}
-use Rattle.std.proofs.Math.Arith.{half_le, bin_ind}
-use Rattle.ground.specs.Bits.{bits, digits}
-
--- digits beyond the number's own are none
-digits_more : (most n : ℕ) → n ≤ most → digits (suc most) n ≡ digits most n
-digits_more zero zero h = refl
-digits_more zero (suc n) h = absurd (not-suc-le-zero h)
-digits_more (suc most) zero h = refl
-digits_more (suc most) (suc n) h = ap suc (digits_more most (suc n / 2) (half_le h))
+use Rattle.std.proofs.Common.{◌≡◌, ℕ, zero, suc, ◌+◌, ◌/◌, ◌^◌, ◌<◌, ◌≤◌, suc-le-suc, zero-le, pow-suc, arith, lit<}
+use Rattle.std.proofs.Math.Arith.{bin_ind}
+use Rattle.ground.specs.Bits.{bits}
+use Rattle.ground.proofs.Digits.{fold_suc}
 
 bits_suc : (n : ℕ) → bits (suc n) ≡ suc (bits (suc n / 2))
 unfolding bits
-bits_suc n =
-    let h = suc n / 2 in
-    ap suc (le_ind (λ most. digits most h ≡ digits h h) refl (λ most k e. digits_more most h k ∙ e) n (half_le (le_refl (suc n))))
+bits_suc = fold_suc (λ _ count. suc count)
 
 pub bits_half : (n : ℕ) → 0 < n → bits n ≡ bits (n / 2) + 1
 bits_half zero h = omega arith

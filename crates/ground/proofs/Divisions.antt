@@ -66,16 +66,17 @@ module _ {m : Meaning} (L : Laws m) where
   }
 
   -- where A equals B, both are the greatest common divisor
-  kept_greatest : {y x : ℕ} {s : Registers} → Kept m y x s → s.a ≡ s.b → Greatest m.operations x m.modulus s.b
+  kept_greatest : {y x : ℕ} {s : Registers} → Kept m y x s → s.a.value ≡ s.b.value → Greatest m.operations x m.modulus s.b.value
   kept_greatest {s = s} k e =
-      let (p, q) = k.up s.b (1, R.product_one s.b ∙ sym e) (1, R.product_one s.b) in
+      let g = s.b.value in
+      let (p, q) = k.up g (1, R.product_one g ∙ sym e) (1, R.product_one g) in
       record { first = p; second = q; greatest = λ d i j. (k.down d i j).1 }
 
-  -- where both are 1, U is a quotient
-  kept_solves : {y x : ℕ} {s : Registers} → Kept m y x s → s.a ≡ s.b → s.b ≡ 1 → Solves m y x s.u
+  -- where both are 1, A's residue is a quotient
+  kept_solves : {y x : ℕ} {s : Registers} → Kept m y x s → s.a.value ≡ s.b.value → s.b.value ≡ 1 → Solves m y x s.a.residue
   kept_solves {y = y} {s = s} k e one = record {
-    residue = k.u_residue;
-    quotient = congruences.join R k.u_is (congruences.same R (ap (λ a. a ⊗ y) (e ∙ one) ∙ rings.one_product R y));
+    residue = k.a.residue;
+    quotient = congruences.join R k.a.is (congruences.same R (ap (λ a. a ⊗ y) (e ∙ one) ∙ rings.one_product R y));
   }
 
   ends : (y x : ℕ) → 0 < x → y < m.size → Ended m y x (start m y x) 0 (runs m (bits x + bits m.modulus) (start m y x) 0)
@@ -87,8 +88,8 @@ module _ {m : Meaning} (L : Laws m) where
       let e = ends 1 x hx Q.one_residue in
       let t = after m e.more (start m 1 x) in
       let b = kept_greatest e.kept e.settles.equal in
-      let (i, f) = c.greatest t.b b.first b.second in
-      (t.u, kept_solves e.kept e.settles.equal (R.only_one t.b i (f ∙ one)))
+      let (i, f) = c.greatest t.b.value b.first b.second in
+      (t.a.residue, kept_solves e.kept e.settles.equal (R.only_one t.b.value i (f ∙ one)))
 
   division_above : {y x : ℕ} {r : Outcome} → 0 < x → Ended m y x (start m y x) 0 r → Division m y x r
   division_above {y} {x} hx e =

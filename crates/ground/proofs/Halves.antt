@@ -1,7 +1,7 @@
 -- Halving on a ground, from the laws of parity: the base has an inverse modulo an odd modulus, and what is odd and divides
 -- a double divides its half. Assumes nothing.
 use Rattle.std.proofs.Common.{◌≡◌, ℕ, Bool, true, false, sym, refl, ap, ◌∙◌, arith}
-use Rattle.std.proofs.lemmas.Bool.{both_ways}
+use Rattle.std.proofs.lemmas.Bool.{both_ways, false_from_ne_true}
 use Rattle.ground.specs.Operations.{Operations, Divides, Congruent}
 use Rattle.ground.specs.Laws.{Ring, Parity}
 use Rattle.ground.proofs.Rings as rings
@@ -12,26 +12,18 @@ module _ {o : Operations} (R : Ring o) (P : Parity o) where
   infixl 70 ◌⊗◌
   open o use {sum as ◌⊕◌, product as ◌⊗◌, base, even, half, difference}
 
-  -- a test that does not pass fails
-  odd : (a : ℕ) → (even a ≡ true → ⊥) → even a ≡ false
-  odd a h = by (even a) refl
-    where
-      by : (t : Bool) → even a ≡ t → even a ≡ false
-      by true e = absurd (h e)
-      by false e = e
-
   -- 0 is the only multiple of 0, so under a base of 0 both 1 and 2 would be odd, and 1 + 1 and 2 + 1 both 0
   pub base_nonzero : base ≡ 0 → ⊥
   base_nonzero z =
       let none : (a : ℕ) → even a ≡ true → a ≡ 0 = λ a e. sym (P.even_half a e) ∙ ap (λ b. b ⊗ half a) z ∙ rings.zero_product R (half a) in
-      let one : even 1 ≡ false = odd 1 (λ e. let q = none 1 e in omega arith) in
-      let two : even 2 ≡ false = odd 2 (λ e. let q = none 2 e in omega arith) in
+      let one : even 1 ≡ false = false_from_ne_true (even 1) (λ e. let q = none 1 e in omega arith) in
+      let two : even 2 ≡ false = false_from_ne_true (even 2) (λ e. let q = none 2 e in omega arith) in
       let same : ◌≡◌ {A = ℕ} 1 2 = R.sum_cancel 1 2 1 (none (1 ⊕ 1) (P.odd_sum 1 1 one one) ∙ sym (none (2 ⊕ 1) (P.odd_sum 2 1 two one))) in
       omega arith
 
   -- the divisors of an odd value are odd
   pub odd_divisor : (d a : ℕ) → Divides o d a → even a ≡ false → even d ≡ false
-  odd_divisor d a (k, e) h = odd d λ p.
+  odd_divisor d a (k, e) h = false_from_ne_true (even d) λ p.
       both_ways (even a) h (ap even (sym e ∙ ap (λ z. z ⊗ k) (sym (P.even_half d p)) ∙ R.product_assoc base (half d) k) ∙ P.even_multiple (half d ⊗ k))
 
   -- 1 divides every value

@@ -1,4 +1,3 @@
-pub mod Moduli
 pub mod Digits
 pub mod Bits
 pub mod Rings

@@ -11,12 +11,12 @@ use Rattle.ground.proofs.Runs.{runs_done, runs_more}
 
 pub record Running (m : Meaning) (y x : ℕ) (s : Registers) (n : ℕ) : Type 0 where
   pub kept : Kept m y x s
-  pub room : bits s.a + bits s.b + n ≤ bits x + bits m.modulus
+  pub room : bits s.a.value + bits s.b.value + n ≤ bits x + bits m.modulus
   pub rest : runs m (bits x + bits m.modulus - n) s n ≡ outcome m y x
-  pub done : s.a ≡ s.b → ended s n ≡ outcome m y x
+  pub done : s.a.value ≡ s.b.value → ended s n ≡ outcome m y x
 
 -- what is left to run settles what comes of registers with A equal to B
-running : {m : Meaning} {y x : ℕ} {s : Registers} {n : ℕ} → Kept m y x s → bits s.a + bits s.b + n ≤ bits x + bits m.modulus
+running : {m : Meaning} {y x : ℕ} {s : Registers} {n : ℕ} → Kept m y x s → bits s.a.value + bits s.b.value + n ≤ bits x + bits m.modulus
     → runs m (bits x + bits m.modulus - n) s n ≡ outcome m y x → Running m y x s n
 running {m} {y} {x} {s} {n} k room rest = record {
   kept = k;
@@ -30,11 +30,8 @@ module _ {m : Meaning} (L : Laws m) {y x : ℕ} where
   running_start h hy =
       running (kept_start L (omega arith) hy) (omega arith) (rw (ne_eqb x 0 h) (ap (λ most. runs m most (start m y x) 0) (omega arith)))
 
-  pub running_more : {s : Registers} {n : ℕ} → Running m y x s n → (s.a ≡ s.b → ⊥) → Running m y x (step m s) (n + 1)
+  pub running_more : {s : Registers} {n : ℕ} → Running m y x s n → (s.a.value ≡ s.b.value → ⊥) → Running m y x (step m s) (n + 1)
   running_more {s} {n} r apart =
       let (k, less) = step_kept L s r.kept apart in
-      let room : n < bits x + bits m.modulus = omega (arith, r.room, bits_half s.a r.kept.a_above) in
+      let room : n < bits x + bits m.modulus = omega (arith, r.room, bits_half s.a.value r.kept.a.above) in
       running k (omega (arith, r.room)) (sym (runs_more m (bits x + bits m.modulus) s n room apart) ∙ r.rest)
-
-  pub running_less : {s : Registers} {n : ℕ} → Running m y x s n → (s.a ≡ s.b → ⊥) → bits (step m s).a + bits (step m s).b < bits s.a + bits s.b
-  running_less {s} r apart = (step_kept L s r.kept apart).1

@@ -1,6 +1,7 @@
 -- Which numbers are moduli, on every ground. Assumes nothing.
 --   IsModulus m     m is a modulus
---   Made value m    what making something of the modulus m answers: that, or refusal 1 where m is no modulus
+--   Made is m r     what making something of the modulus m answers: a thing that `is` as wanted, or refusal 1 where m is no
+--                   modulus
 use Rattle.std.specs.Prelude.{◌≡◌, ℕ, ◌%◌, ◌≤◌, [], Result, MatchResult}
 use Rattle.answers.specs.Answers.{Refused}
 use Rattle.answers.specs.declared.refusal.Refusal.{Refusal}
@@ -10,6 +11,5 @@ pub record IsModulus (m : ℕ) : Type 0 where
   pub least : 3 ≤ m
   pub most : m ≤ 2147483647
 
--- `value` reads the modulus of what was made
-abbrev pub Made : {T : Type 0} → (T → ℕ) → ℕ → Result T Refusal → Type 0
-Made value m r = MatchResult r (λ t. IsModulus m × (value t ≡ m)) (λ e. (IsModulus m → ⊥) × Refused e 1 [])
+abbrev pub Made : {T : Type 0} → (T → Type 0) → ℕ → Result T Refusal → Type 0
+Made is m r = MatchResult r (λ t. IsModulus m × is t) (λ e. (IsModulus m → ⊥) × Refused e 1 [])

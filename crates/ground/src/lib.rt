@@ -6,10 +6,12 @@ ghost use Rattle.ground.specs.Operations.{Meaning, halved, subtracted};
 ghost use Rattle.ground.specs.Laws.{Laws};
 
 mod division;
+mod modular;
 mod modulus;
 mod registers;
 
 pub use division::divide;
+pub use modular::Modular;
 pub use modulus::Modulus;
 
 // A ground with a modulus: numbers of 32 bits under operations of its own. The code below asks for no more than these

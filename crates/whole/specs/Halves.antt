@@ -1,13 +1,10 @@
 -- Even and odd whole numbers, and what halving does to their binary digits. Assumes nothing.
-use Rattle.std.specs.Prelude.{◌≡◌, ℕ, ◌+◌, ◌-◌, ◌*◌, ◌/◌, ◌%◌, false, ◌==◌}
+use Rattle.std.specs.Prelude.{◌≡◌, ℕ, ◌+◌, ◌-◌, ◌*◌, ◌/◌, ◌%◌}
 use Rattle.std.proofs.Common.{ap, add-mul, mul_assoc, one-mul, arith, leb-true, eqb-true, eq-eqb, ne_eqb}
-use Rattle.std.proofs.lemmas.Bool.{eqb-false}
 use Rattle.ground.proofs.Bits.{bits_half, bits_mono}
+use Rattle.ground.proofs.Digits.{odd}
 use Rattle.ground.specs.Laws.{Parity, Shrinking}
 use Rattle.whole.specs.Whole.{whole_operations}
-
-odd : (a : ℕ) → (a % 2 == 0) ≡ false → a % 2 ≡ 1
-odd a e = omega (arith, eqb-false (a % 2) 0 e)
 
 odd_product : (a b : ℕ) → a % 2 ≡ 1 → b % 2 ≡ 1 → a * b % 2 ≡ 1
 odd_product a b h k =

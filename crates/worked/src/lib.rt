@@ -6,14 +6,19 @@ ghost use Rattle.answers.specs.Answers.{told};
 ghost use Rattle.worked.specs.Worked.{answers, Worked};
 
 use answers::{Quotient, Refusal};
-use whole::quotient;
+use ground::Modular;
+use whole::Whole;
 
 // The worked divisions on whole numbers, done by the code.
 pub fn divisions() -> [Result<Quotient, Refusal>; 3]
     ensures worked { Worked }
     ensures told { map told result ≡ answers }
 {
-    [quotient(7, 1, 3), quotient(15, 1, 6), quotient(15, 1, 0)]
+    [
+        Whole::quotient(7, 1, 3),
+        Whole::quotient(15, 1, 6),
+        Whole::quotient(15, 1, 0),
+    ]
 }
 
 #[cfg(test)]
@@ -23,24 +28,19 @@ mod tests {
     #[test]
     fn divisions_run(rt: HostRuntime) {
         let [third, sixth, none] = divisions();
-        assert!(rt; matches!(third, Ok(Quotient { value: 5, steps: 3 })));
+        assert!(rt; third == Ok(Quotient { value: 5, steps: 3 }));
         assert!(rt;
-            matches!(
-                sixth,
-                Err(Refusal::NotUnit {
+            sixth
+                == Err(Refusal::NotUnit {
                     witness: 3,
                     steps: 3
                 })
-            )
         );
         assert!(rt;
-            matches!(
-                none,
-                Err(Refusal::NotUnit {
-                    witness: 15,
-                    steps: 0
-                })
-            )
+            none == Err(Refusal::NotUnit {
+                witness: 15,
+                steps: 0
+            })
         );
     }
 }

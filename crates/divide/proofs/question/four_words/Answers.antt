@@ -1,4 +1,4 @@
--- Each call of `next` gives the first word and what is left.
+-- Each call of `next` gives the first word and what is left. The answers differ in the calls that their goals name.
 use Rattle.divide.proofs.Words.{not_words_end, not_words_more, not_words_some}
 use Rattle.divide.proofs.question.four_words.Goals as goal
 

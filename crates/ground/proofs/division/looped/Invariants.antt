@@ -7,4 +7,4 @@ abbrev pub invariant-loop-run : goal.invariant-loop-run
 invariant-loop-run g l = Running (g.G.Ground.meaning l.ground) l.y l.x l.run.registers l.run.steps
 
 abbrev pub decreases-loop-run : goal.decreases-loop-run
-decreases-loop-run g l = bits l.run.registers.a + bits l.run.registers.b
+decreases-loop-run g l = bits l.run.registers.a.value + bits l.run.registers.b.value
